@@ -27,3 +27,19 @@ marks note = among (contains note) 9 1
 -- no bit but 1 to 9
 unfoldable pub isNote : ℕ → Bool
 isNote note = both (eqb (note % 2) 0) (ltb note (2 ^ 10))
+
+-- how many marks stand in the note
+unfoldable pub lenOf : ℕ → ℕ
+lenOf note = length (marks note)
+
+-- no mark stands in the note
+unfoldable pub isEmpty : ℕ → Bool
+isEmpty note = eqb (lenOf note) 0
+
+-- the marks of a note, ascending, then zeros up to nine entries
+unfoldable pub digitsOf : ℕ → List ℕ
+digitsOf note = marks note ++ replicate (9 - lenOf note) 0
+
+-- the value of mark d: 2 to the power d where d is 1 to 9, else 0
+unfoldable pub powerOf : ℕ → ℕ
+powerOf d = pick (inRange d) (2 ^ d) 0

@@ -1,0 +1,245 @@
+-- The laws of a note and its marks, for any note and any digits: writing and striking undo each other, change one mark only, change
+-- nothing where there is nothing to do, and keep a note a note; and a note is no more than its marks.
+-- Assumes nothing.
+use mathlib.Core.Path.{_≡_, refl, sym, ap, _∙_}
+use mathlib.Core.Logic.{_≢_}
+use mathlib.Core.Bool.{Bool, true, false}
+use Prim.Native.Nat.{ℕ, zero, suc, _+_, _-_, _*_, _/_, _%_, _^_, _≤_, _<_}
+use native.Mathlib.Nat.{sub-add-cancel, div-one, zero-div, add-zero}
+use native.Mathlib.Omega.{arith}
+use lib.Dec.{ltb, leb, eqb}
+use borrow.Author.Tests.{ltb-true, lt-ltb, leb-true, le-leb, lt-leb, eqb-true, eqb-false, eq-eqb, ne-eqb}
+use Rattle.sudoku.specs.Tests.{pick, both, bit, count}
+use Rattle.sudoku.proofs.Walks.{by-test, pick-true, pick-false, length-among, count-le, count-none, both-left, both-right, both-true, both-false-left, both-false-right}
+use Rattle.sudoku.specs.Grid.{inRange}
+use Rattle.note.specs.Note.{contains, withMark, without, isNote, powerOf, lenOf, marks, isEmpty}
+use Rattle.note.proofs.Bits.{power-le, bit-added, bit-removed, bit-added-other, bit-removed-other, added-fits, same-bits}
+
+-- ---- what the tests say in numbers
+
+pub in-range : (d : ℕ) → 1 ≤ d → d ≤ 9 → inRange d ≡ true
+unfolding inRange
+in-range d l h = both-true _ _ (le-leb 1 d l) (le-leb d 9 h)
+
+pub below-range : (d : ℕ) → d < 1 → inRange d ≡ false
+unfolding inRange
+below-range d h = both-false-left _ _ (lt-leb 1 d h)
+
+pub above-range : (d : ℕ) → 9 < d → inRange d ≡ false
+unfolding inRange
+above-range d h = both-false-right _ _ (lt-leb d 9 h)
+
+module _ (d : ℕ) (h : inRange d ≡ true) where
+  pub inRange-low : 1 ≤ d
+  unfolding inRange
+  inRange-low = leb-true _ _ (both-left _ _ h)
+
+  pub inRange-high : d ≤ 9
+  unfolding inRange
+  inRange-high = leb-true _ _ (both-right _ _ h)
+
+module _ (n d : ℕ) where
+  -- a mark that stands is a digit, and its bit is 1
+  pub contains-digit : contains n d ≡ true → inRange d ≡ true
+  unfolding contains
+  contains-digit h = both-left _ _ h
+
+  pub contains-bit : contains n d ≡ true → n / 2 ^ d % 2 ≡ 1
+  unfolding contains
+  contains-bit h = eqb-true _ _ (both-right _ _ h)
+
+  -- a digit whose bit is 1 stands, and one that does not stand has bit 0
+  pub bit-contains : inRange d ≡ true → contains n d ≡ eqb (n / 2 ^ d % 2) 1
+  unfolding contains both
+  bit-contains r = rw r
+
+  pub absent-bit : inRange d ≡ true → contains n d ≡ false → n / 2 ^ d % 2 ≡ 0
+  absent-bit r h = let ne : n / 2 ^ d % 2 ≢ 1 = eqb-false _ _ (sym (bit-contains r) ∙ h) in omega arith
+
+  pub no-digit : inRange d ≡ false → contains n d ≡ false
+  unfolding contains both
+  no-digit r = rw r
+
+  -- ---- no change where there is nothing to do
+
+  pub with-there : contains n d ≡ true → withMark n d ≡ n
+  unfolding withMark pick
+  with-there h = rw h
+
+  pub without-absent : contains n d ≡ false → without n d ≡ n
+  unfolding without pick
+  without-absent h = rw h
+
+  pub with-no-digit : inRange d ≡ false → withMark n d ≡ n
+  unfolding withMark pick
+  with-no-digit r = rw (no-digit r, r)
+
+  pub without-no-digit : inRange d ≡ false → without n d ≡ n
+  without-no-digit r = without-absent (no-digit r)
+
+  -- ---- and else 2 ^ d comes or goes
+
+  pub with-new : inRange d ≡ true → contains n d ≡ false → withMark n d ≡ n + 2 ^ d
+  unfolding withMark pick
+  with-new r h = rw (h, r)
+
+  pub without-there : contains n d ≡ true → without n d ≡ n - 2 ^ d
+  unfolding without pick
+  without-there h = rw h
+
+-- ---- the same by the mark's value, which is 0 for what is no digit
+
+pub power-digit : (d : ℕ) → inRange d ≡ true → powerOf d ≡ 2 ^ d
+unfolding powerOf
+power-digit d r = pick-true _ _ _ r
+
+pub power-no-digit : (d : ℕ) → inRange d ≡ false → powerOf d ≡ 0
+unfolding powerOf
+power-no-digit d r = pick-false _ _ _ r
+
+pub with-absent : (n d : ℕ) → contains n d ≡ false → withMark n d ≡ n + powerOf d
+with-absent n d h =
+    by-test (inRange d) (λ r. rw (power-digit d r) (with-new n d r h))
+    (λ r. rw (power-no-digit d r, add-zero) (with-no-digit n d r))
+
+pub without-power : (n d : ℕ) → contains n d ≡ true → without n d ≡ n - powerOf d
+without-power n d h = rw (power-digit d (contains-digit n d h)) (without-there n d h)
+
+-- each way that writing or striking goes: a property of the note after it holds if it holds in each
+with-cases : (n d : ℕ) (P : ℕ → Type 0) → P n → (inRange d ≡ true → n / 2 ^ d % 2 ≡ 0 → P (n + 2 ^ d)) → P (withMark n d)
+with-cases n d P same new =
+    by-test (contains n d) (λ h. rw (with-there n d h) same)
+    (λ h. by-test (inRange d) (λ r. rw (with-new n d r h) (new r (absent-bit n d r h))) (λ r. rw (with-no-digit n d r) same))
+
+without-cases : (n d : ℕ) (P : ℕ → Type 0) → P n → (inRange d ≡ true → n / 2 ^ d % 2 ≡ 1 → P (n - 2 ^ d)) → P (without n d)
+without-cases n d P same new =
+    by-test (contains n d) (λ h. rw (without-there n d h) (new (contains-digit n d h) (contains-bit n d h)))
+    (λ h. rw (without-absent n d h) same)
+
+-- ---- the mark itself
+
+pub contains-without : (n d : ℕ) → contains (without n d) d ≡ false
+contains-without n d =
+    by-test (contains n d)
+    (λ h. rw (without-there n d h, bit-contains (n - 2 ^ d) d (contains-digit n d h), bit-removed n d (contains-bit n d h)))
+    (λ h. rw (without-absent n d h) h)
+
+pub contains-with : (n d : ℕ) → contains (withMark n d) d ≡ inRange d
+contains-with n d =
+    by-test (contains n d) (λ h. rw (with-there n d h) (h ∙ sym (contains-digit n d h)))
+    (λ h.
+    by-test (inRange d)
+    (λ r. rw (with-new n d r h, bit-contains (n + 2 ^ d) d r, bit-added n d (absent-bit n d r h)) (sym r))
+    (λ r. rw (with-no-digit n d r) (h ∙ sym r)))
+
+-- ---- writing and striking undo each other
+
+pub write-strike : (n d : ℕ) → contains n d ≡ true → withMark (without n d) d ≡ n
+write-strike n d h =
+    with-new (without n d) d (contains-digit n d h) (contains-without n d)
+    ∙ rw (without-there n d h) (sub-add-cancel (power-le n d (contains-bit n d h)))
+
+pub strike-write : (n d : ℕ) → inRange d ≡ true → contains n d ≡ false → without (withMark n d) d ≡ n
+strike-write n d r h =
+    without-there (withMark n d) d (contains-with n d ∙ r) ∙ rw (with-new n d r h) (omega arith)
+
+-- ---- every other mark stays
+
+pub with-other : (n d e : ℕ) → d ≢ e → contains (withMark n d) e ≡ contains n e
+unfolding contains
+with-other n d e ne =
+    with-cases n d (λ (m : ℕ). contains m e ≡ contains n e) refl (λ r h. rw (bit-added-other n d e ne h))
+
+pub without-other : (n d e : ℕ) → d ≢ e → contains (without n d) e ≡ contains n e
+unfolding contains
+without-other n d e ne =
+    without-cases n d (λ (m : ℕ). contains m e ≡ contains n e) refl (λ r h. rw (bit-removed-other n d e ne h))
+
+-- ---- notes stay notes
+
+module _ (n : ℕ) (h : isNote n ≡ true) where
+  pub isNote-even : n % 2 ≡ 0
+  unfolding isNote
+  isNote-even = eqb-true _ _ (both-left _ _ h)
+
+  pub isNote-small : n < 1024
+  unfolding isNote
+  isNote-small = ltb-true _ _ (both-right _ _ h)
+
+pub note-of : (n : ℕ) → n % 2 ≡ 0 → n < 1024 → isNote n ≡ true
+unfolding isNote both
+note-of n e l = rw (e, lt-ltb _ _ l)
+
+pub isNote-with : (n d : ℕ) → isNote n ≡ true → isNote (withMark n d) ≡ true
+isNote-with n d h =
+    with-cases n d (λ (m : ℕ). isNote m ≡ true) h
+    (λ r a. note-of (n + 2 ^ d) (even r a) (added-fits 10 n d (omega (arith, inRange-high d r)) (isNote-small n h) a))
+  where
+    even : inRange d ≡ true → n / 2 ^ d % 2 ≡ 0 → (n + 2 ^ d) % 2 ≡ 0
+    even r a =
+        rw (div-one (n + 2 ^ d), div-one n, isNote-even n h) at (bit-added-other n d 0 (omega (arith, inRange-low d r)) a)
+
+pub isNote-without : (n d : ℕ) → isNote n ≡ true → isNote (without n d) ≡ true
+isNote-without n d h =
+    without-cases n d (λ (m : ℕ). isNote m ≡ true) h
+    (λ r a. note-of (n - 2 ^ d) (even r a) (omega (arith, isNote-small n h)))
+  where
+    even : inRange d ≡ true → n / 2 ^ d % 2 ≡ 1 → (n - 2 ^ d) % 2 ≡ 0
+    even r a =
+        rw (div-one (n - 2 ^ d), div-one n, isNote-even n h) at (bit-removed-other n d 0 (omega (arith, inRange-low d r)) a)
+
+pub isNote-zero : isNote 0 ≡ true
+unfolding isNote both
+isNote-zero = refl
+
+pub contains-zero : (d : ℕ) → contains 0 d ≡ false
+unfolding contains
+contains-zero d = both-false-right (inRange d) _ (rw (zero-div (2 ^ d)))
+
+-- ---- the marks together
+
+-- a mark counts as its bit
+pub bit-of : (n d : ℕ) → inRange d ≡ true → bit (contains n d) ≡ n / 2 ^ d % 2
+unfolding bit
+bit-of n d r = by-test (contains n d) (λ h. rw h (sym (contains-bit n d h))) (λ h. rw h (sym (absent-bit n d r h)))
+
+pub len-count : (n : ℕ) → lenOf n ≡ count (contains n) 9 1
+unfolding lenOf marks
+len-count n = length-among (contains n) 9 1
+
+pub len-le : (n : ℕ) → lenOf n ≤ 9
+len-le n = rw (len-count n) (count-le (contains n) 9 1)
+
+-- no mark stands in an empty note
+pub empty-contains : (n d : ℕ) → isEmpty n ≡ true → contains n d ≡ false
+unfolding isEmpty
+empty-contains n d h =
+    by-test (inRange d)
+    (λ r.
+    count-none (contains n) 9 1 d (sym (len-count n) ∙ eqb-true _ _ h) (inRange-low d r)
+    (omega (arith, inRange-high d r)))
+    (λ r. no-digit n d r)
+
+-- ---- what fits a word: the sum does where the note does, and no difference falls below 0
+
+pub with-fits : (w n d : ℕ) → 10 ≤ w → n < 2 ^ w → withMark n d < 2 ^ w
+with-fits w n d l f = with-cases n d (λ (m : ℕ). m < 2 ^ w) f (λ r a. added-fits w n d (omega (arith, inRange-high d r)) f a)
+
+pub power-fits : (n d : ℕ) → contains n d ≡ true → powerOf d ≤ n
+power-fits n d h = rw (power-digit d (contains-digit n d h)) (power-le n d (contains-bit n d h))
+
+-- ---- a note is no more than its marks
+
+same-bit : (x y : ℕ) → eqb (x % 2) 1 ≡ eqb (y % 2) 1 → x % 2 ≡ y % 2
+same-bit x y h =
+    by-test (eqb (y % 2) 1) (λ e. eqb-true (x % 2) 1 (h ∙ e) ∙ sym (eqb-true (y % 2) 1 e))
+    (λ e. omega (arith, eqb-false (x % 2) 1 (h ∙ e), eqb-false (y % 2) 1 e))
+
+pub same-marks : (n m : ℕ) → isNote n ≡ true → isNote m ≡ true → ((d : ℕ) → inRange d ≡ true → contains n d ≡ contains m d) → n ≡ m
+same-marks n m hn hm h = same-bits 10 n m (isNote-small n hn) (isNote-small m hm) by
+  where
+    by : (d : ℕ) → d < 10 → n / 2 ^ d % 2 ≡ m / 2 ^ d % 2
+    by zero l = rw (div-one n, div-one m) (isNote-even n hn ∙ sym (isNote-even m hm))
+    by (suc d) l =
+        let r : inRange (suc d) ≡ true = in-range (suc d) (omega arith) (omega arith) in
+        same-bit _ _ (rw (bit-contains n (suc d) r, bit-contains m (suc d) r) at (h (suc d) r))
