@@ -72,6 +72,11 @@ pub both-first : (a b : Bool) → a ≡ true → both a b ≡ b
 unfolding both
 both-first a b p = ap (λ (t : Bool). both t b) p
 
+pub both-second : (a b : Bool) → b ≡ true → both a b ≡ a
+unfolding both
+both-second true b p = p
+both-second false b p = refl
+
 pub both-false-left : (a b : Bool) → a ≡ false → both a b ≡ false
 unfolding both
 both-false-left a b p = ap (λ (t : Bool). both t b) p
