@@ -66,3 +66,8 @@ t ⇒ n = record { holds = t; number = n }
 unfoldable pub first : List Test → ℕ
 first [] = 0
 first (t ∷ ts) = pick (t .holds) (t .number) (first ts)
+
+-- the values of f at the n numbers from i on
+unfoldable pub listed : {A : Type 0} → (ℕ → A) → ℕ → ℕ → List A
+listed f zero i = []
+listed f (suc n) i = f i ∷ listed f n (suc i)

@@ -1,0 +1,73 @@
+-- The board value and its test, number 2.
+-- Assumes nothing.
+use Prim.Native.Nat.{ℕ}
+use mathlib.Core.Bool.{Bool, false, not}
+use mathlib.Core.List.{List}
+use lib.Dec.{leb}
+use lib.ListN.{replicate}
+use Rattle.sudoku.specs.Tests.{both, either, every}
+use Rattle.sudoku.specs.Grid.{inRange, at}
+use Rattle.note.specs.Note.{isNote}
+use Rattle.puzzle.specs.declared.Given.{Given}
+use Rattle.puzzle.specs.Puzzle.{holdsDigit}
+use Rattle.journal.specs.Limits.{maxMoves, maxChecks}
+use Rattle.journal.specs.declared.Counts.{Counts}
+use Rattle.journal.specs.Counts.{counts}
+use Rattle.journal.specs.State.{State, opening, isGiven}
+use Rattle.board.specs.declared.Board.{Board}
+
+-- what moves read and change of a board
+unfoldable pub stateOf : Board → State
+stateOf b = record { given = b .given; digits = b .digits; notes = b .notes; solved = b .solved }
+
+unfoldable pub countsOf : Board → Counts
+countsOf b = counts (b .made) (b .standing)
+
+-- a board of a state, a solution, the journal's counts and the number of checks
+unfoldable pub boardOf : State → List ℕ → Counts → ℕ → Board
+boardOf s solution c checks =
+    record {
+      digits = s .digits;
+      given = s .given;
+      notes = s .notes;
+      solution = solution;
+      solved = s .solved;
+      made = c .made;
+      standing = c .standing;
+      checks = checks;
+    }
+
+-- the board after a move: another state and other counts, the same solution and checks
+unfoldable pub moved : Board → State → Counts → Board
+moved b s c = boardOf s (b .solution) c (b .checks)
+
+-- a cell of the board value: no digit above 9, no given with digit 0, no note bit other than 1 to 9, no solution digit outside 1 to 9
+unfoldable pub isCellValue : Board → ℕ → Bool
+isCellValue b cell =
+    both (leb (at (b .digits) cell) 9)
+    (both (either (not (isGiven (stateOf b) cell)) (holdsDigit (b .digits) cell))
+    (both (isNote (at (b .notes) cell)) (inRange (at (b .solution) cell))))
+
+-- number 2 speaks of board values for which this does not hold
+unfoldable pub isBoard : Board → Bool
+isBoard b =
+    both (leb (b .made) maxMoves)
+    (both (leb (b .standing) (b .made)) (both (leb (b .checks) maxChecks) (every (isCellValue b) 81 1)))
+
+-- the fresh board of givens and their solution
+unfoldable pub fresh : List Given → List ℕ → Board
+fresh gs solution = boardOf (opening gs) solution (counts 0 0) 0
+
+-- a refused opening hands back a board with every field 0, unsolved
+unfoldable pub zeroBoard : Board
+zeroBoard =
+    record {
+      digits = replicate 81 0;
+      given = replicate 81 false;
+      notes = replicate 81 0;
+      solution = replicate 81 0;
+      solved = false;
+      made = 0;
+      standing = 0;
+      checks = 0;
+    }

@@ -1,0 +1,5 @@
+pub mod Board
+pub mod Open
+pub mod Play
+pub mod Check
+pub mod Questions

@@ -1,0 +1,58 @@
+// The board (board.rs, board/cell.rs, board/check.rs and board/error.rs of the original): one puzzle as it is being played.
+use puzzle::Refusal;
+
+// A board by value, with flat arrays of 81 and open fields. It goes into a call and comes back in its answer.
+#[repr(C)]
+pub struct Board {
+    // 0 means none
+    pub digits: [u8; 81],
+    pub given: [bool; 81],
+    // kept notes: mark d is the bit of value 2 to the power d
+    pub notes: [u16; 81],
+    pub solution: [u8; 81],
+    pub solved: bool,
+    pub made: usize,
+    pub standing: usize,
+    pub checks: usize,
+}
+
+// What a call that changes the board answers.
+#[repr(C)]
+pub struct Answer {
+    pub refusal: Refusal,
+    pub board: Board,
+}
+
+// What a check answers: whether the digit is the solution's; false beside a refusal.
+#[repr(C)]
+pub struct Checked {
+    pub refusal: Refusal,
+    pub right: bool,
+    pub board: Board,
+}
+
+// What the question for one cell answers; zeros beside a refusal.
+#[repr(C)]
+pub struct CellAnswer {
+    pub refusal: Refusal,
+    pub digit: u8,
+    pub given: bool,
+    pub conflicting: bool,
+    // the kept note, and whether it is shown
+    pub note: u16,
+    pub shown: bool,
+}
+
+// What a question answered by yes or no answers; false beside a refusal.
+#[repr(C)]
+pub struct YesNo {
+    pub refusal: Refusal,
+    pub holds: bool,
+}
+
+// What the keypad answers: digits left for a key; 0 beside a refusal.
+#[repr(C)]
+pub struct Left {
+    pub refusal: Refusal,
+    pub left: u8,
+}

@@ -1,0 +1,70 @@
+-- Stored checks of document 01 (check.rs): check n is the nth six bytes of the check memory. The layout is read and written here and nowhere else.
+-- Assumes nothing.
+use Prim.Native.Nat.{ℕ, _+_, _-_, _*_}
+use mathlib.Core.Bool.{Bool, not}
+use mathlib.Core.List.{List, [], _∷_, _++_}
+use lib.Dec.{leb, eqb}
+use lib.ListN.{getD}
+use Rattle.sudoku.specs.Tests.{both, bit}
+use Rattle.sudoku.specs.Grid.{inRange, onGrid, cellOf, at}
+use Rattle.journal.specs.Limits.{maxMoves, checkBytes}
+use Rattle.journal.specs.Bytes.{low, second, two}
+use Rattle.journal.specs.State.{State, isGiven}
+
+-- a check: standing, row, column, digit, and the verdict, whether the digit is the solution's
+pub record Stored : Type 0 where
+  pub standing : ℕ
+  pub row : ℕ
+  pub column : ℕ
+  pub digit : ℕ
+  pub right : Bool
+
+-- the verdict on a digit at a cell
+unfoldable pub isRight : List ℕ → ℕ → ℕ → Bool
+isRight solution cell digit = eqb (at solution cell) digit
+
+-- the check of a digit at a position, asked while `standing` moves stand
+unfoldable pub judge : List ℕ → ℕ → ℕ → ℕ → ℕ → Stored
+judge solution standing row column digit =
+    record {
+      standing = standing;
+      row = row;
+      column = column;
+      digit = digit;
+      right = isRight solution (cellOf row column) digit;
+    }
+
+-- its six bytes: standing (two, low first), row, column, digit, verdict (1 when the digit equals the solution's, else 0)
+unfoldable pub storedBytes : Stored → List ℕ
+storedBytes c = low (c .standing) ∷ second (c .standing) ∷ c .row ∷ c .column ∷ c .digit ∷ bit (c .right) ∷ []
+
+-- stored checks, one after the other
+unfoldable pub storedAll : List Stored → List ℕ
+storedAll [] = []
+storedAll (c ∷ cs) = storedBytes c ++ storedAll cs
+
+-- where check n starts in the check memory, n from 1
+unfoldable pub checkStart : ℕ → ℕ
+checkStart n = checkBytes * (n - 1)
+
+unfoldable pub verdictByte : List ℕ → ℕ → ℕ
+verdictByte checks n = getD checks (checkStart n + 5) 0
+
+-- check n, read
+unfoldable pub storedAt : List ℕ → ℕ → Stored
+storedAt checks n =
+    let start = checkStart n in
+    record {
+      standing = two (getD checks start 0) (getD checks (start + 1) 0);
+      row = getD checks (start + 2) 0;
+      column = getD checks (start + 3) 0;
+      digit = getD checks (start + 4) 0;
+      right = eqb (verdictByte checks n) 1;
+    }
+
+-- a stored check is sound when standing is 1 to 1,024, the digit 1 to 9, the verdict 0 or 1, and row and column are on the grid and no given's
+unfoldable pub isSoundCheck : State → List ℕ → ℕ → Bool
+isSoundCheck s checks n =
+    let c = storedAt checks n in
+    both (both (onGrid (c .row) (c .column)) (not (isGiven s (cellOf (c .row) (c .column)))))
+    (both (both (leb 1 (c .standing)) (leb (c .standing) maxMoves)) (both (inRange (c .digit)) (leb (verdictByte checks n) 1)))

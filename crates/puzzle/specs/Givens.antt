@@ -1,0 +1,54 @@
+-- Givens of document 01 (proof.rs): triples (row, column, digit), strictly ascending in that order.
+-- Assumes nothing.
+use Prim.Native.Nat.{ℕ}
+use mathlib.Core.Bool.{Bool, true, false}
+use mathlib.Core.List.{List, [], _∷_}
+use lib.Dec.{ltb, eqb}
+use Rattle.sudoku.specs.Tests.{both, either}
+use Rattle.sudoku.specs.Grid.{cellOf, put}
+use Rattle.puzzle.specs.declared.Given.{Given}
+use lib.ListN.{replicate, set}
+use Prim.Native.Nat.{_-_}
+
+abbrev pub given : ℕ → ℕ → ℕ → Given
+given row column digit = record { row = row; column = column; digit = digit }
+
+-- the givens that a list of bytes holds, three bytes each
+unfoldable pub triples : List ℕ → List Given
+triples [] = []
+triples (row ∷ []) = []
+triples (row ∷ column ∷ []) = []
+triples (row ∷ column ∷ digit ∷ bytes) = given row column digit ∷ triples bytes
+
+-- g stands strictly before h in the order of row, column, digit
+unfoldable pub precedes : Given → Given → Bool
+precedes g h =
+    either (ltb (g .row) (h .row))
+    (both (eqb (g .row) (h .row))
+    (either (ltb (g .column) (h .column)) (both (eqb (g .column) (h .column)) (ltb (g .digit) (h .digit)))))
+
+-- g and those after it ascend strictly
+unfoldable pub ascendFrom : Given → List Given → Bool
+ascendFrom g [] = true
+ascendFrom g (h ∷ gs) = both (precedes g h) (ascendFrom h gs)
+
+unfoldable pub ascending : List Given → Bool
+ascending [] = true
+ascending (g ∷ gs) = ascendFrom g gs
+
+-- the 81 digits with each given's digit put at its cell, in order
+unfoldable pub putGivens : List ℕ → List Given → List ℕ
+putGivens digits [] = digits
+putGivens digits (g ∷ gs) = putGivens (put digits (cellOf (g .row) (g .column)) (g .digit)) gs
+
+-- which of the 81 cells hold a given
+unfoldable pub markGivens : List Bool → List Given → List Bool
+markGivens flags [] = flags
+markGivens flags (g ∷ gs) = markGivens (set flags (cellOf (g .row) (g .column) - 1) true) gs
+
+-- the digits of a fresh board: the givens', 0 (none) elsewhere
+unfoldable pub digitsOf : List Given → List ℕ
+digitsOf gs = putGivens (replicate 81 0) gs
+
+unfoldable pub givenCells : List Given → List Bool
+givenCells gs = markGivens (replicate 81 false) gs

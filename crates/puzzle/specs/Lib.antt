@@ -1,0 +1,4 @@
+pub mod Refusals
+pub mod Givens
+pub mod Puzzle
+pub mod Vouch

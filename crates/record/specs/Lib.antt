@@ -1,0 +1,4 @@
+pub mod Items
+pub mod Write
+pub mod Scan
+pub mod Reopen

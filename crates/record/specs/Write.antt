@@ -1,0 +1,84 @@
+-- Writing a record of document 01: refusals 1, 2, 14, 34; the record in the output, bytes beyond it as they were.
+-- Assumes nothing.
+use Prim.Native.Nat.{ℕ, zero, suc, _-_}
+use mathlib.Core.Bool.{Bool, not}
+use mathlib.Core.List.{List, [], _∷_, _++_}
+use lib.Dec.{ltb, eqb}
+use lib.ListN.{length, drop}
+use Rattle.sudoku.specs.Tests.{pick, both, keep, listed}
+use Rattle.sudoku.specs.Grid.{at, rowOf, columnOf}
+use Rattle.puzzle.specs.declared.Given.{Given as Setters}
+use Rattle.puzzle.specs.declared.Refusal.{Refusal}
+use Rattle.puzzle.specs.Refusals.{refusal, accepted, isAccepted, refusedIf, orElse, firstRefused}
+use Rattle.puzzle.specs.Givens.{given}
+use Rattle.journal.specs.declared.Move.{Move}
+use Rattle.journal.specs.Limits.{journalBytes, checkMemory}
+use Rattle.journal.specs.Bytes.{over}
+use Rattle.journal.specs.State.{State, isGiven}
+use Rattle.journal.specs.Slots.{slotAt, moveOf}
+use Rattle.journal.specs.StoredChecks.{storedAt, isSoundCheck}
+use Rattle.board.specs.declared.Board.{Board}
+use Rattle.board.specs.Board.{stateOf, isBoard}
+use Rattle.board.specs.Play.{unsoundSlot}
+use Rattle.record.specs.declared.Asked.{Asked}
+use Rattle.record.specs.declared.Written.{Written}
+use Rattle.record.specs.Items.{Parts, recordOf}
+
+-- the givens of a board, in the order of their cells
+unfoldable pub givensFrom : Board → ℕ → ℕ → List Setters
+givensFrom b zero cell = []
+givensFrom b (suc n) cell =
+    keep (isGiven (stateOf b) cell) (given (rowOf cell) (columnOf cell) (at (b .digits) cell)) (givensFrom b n (suc cell))
+
+unfoldable pub givensOf : Board → List Setters
+givensOf b = givensFrom b 81 1
+
+-- the moves of slots 1 to made
+unfoldable pub movesOf : List ℕ → ℕ → List Move
+movesOf journal made = listed (λ n. moveOf (slotAt journal n)) made 1
+
+-- a stored check as the record holds it
+unfoldable pub askedAt : List ℕ → ℕ → Asked
+askedAt checks n =
+    let c = storedAt checks n in
+    record { standing = c .standing; row = c .row; column = c .column; digit = c .digit }
+
+unfoldable pub askedOf : List ℕ → ℕ → List Asked
+askedOf checks count = listed (askedAt checks) count 1
+
+-- what a board and its memory hold, as a record's parts; undone is made less standing
+unfoldable pub partsOf : Board → List ℕ → List ℕ → Parts
+partsOf b journal checks =
+    record {
+      givens = givensOf b;
+      moves = movesOf journal (b .made);
+      undone = b .made - b .standing;
+      checks = askedOf checks (b .checks);
+    }
+
+-- 14 of check n, with inner 1
+unfoldable pub unsoundCheck : State → List ℕ → ℕ → Refusal
+unsoundCheck s checks n = refusedIf (not (isSoundCheck s checks n)) (refusal 14 n 1)
+
+-- 1; 2; 14 for slots 1 to made, then for the stored checks; 34 Output shorter than the record
+unfoldable pub writeRefusal : Board → List ℕ → List ℕ → List ℕ → Refusal
+writeRefusal b journal checks output =
+    orElse (refusedIf (not (both (eqb (length journal) journalBytes) (eqb (length checks) checkMemory))) (refusal 1 0 0))
+    (orElse (refusedIf (not (isBoard b)) (refusal 2 0 0))
+    (orElse (firstRefused (unsoundSlot (stateOf b) journal) (b .made) 1)
+    (orElse (firstRefused (unsoundCheck (stateOf b) checks) (b .checks) 1)
+    (refusedIf (ltb (length output) (length (recordOf (partsOf b journal checks)))) (refusal 34 0 0)))))
+
+-- what writing answers, and the output afterwards: on success bytes beyond the record stay, after a refusal every byte
+pub record Wrote : Type 0 where
+  pub answer : Written
+  pub output : List ℕ
+
+abbrev pub wrote : Refusal → ℕ → List ℕ → Wrote
+wrote r n output = record { answer = record { refusal = r; length = n }; output = output }
+
+unfoldable pub writeOf : Board → List ℕ → List ℕ → List ℕ → Wrote
+writeOf b journal checks output =
+    let r = writeRefusal b journal checks output in
+    let bytes = recordOf (partsOf b journal checks) in
+    pick (isAccepted r) (wrote accepted (length bytes) (over output 0 bytes)) (wrote r 0 output)

@@ -1,0 +1,6 @@
+pub mod Session
+pub mod Book
+pub mod Opens
+pub mod Demand3
+pub mod Solved
+pub mod Positions
