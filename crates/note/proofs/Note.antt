@@ -7,36 +7,16 @@ use mathlib.Core.Bool.{Bool, true, false}
 use Prim.Native.Nat.{ℕ, zero, suc, _+_, _-_, _*_, _/_, _%_, _^_, _≤_, _<_}
 use native.Mathlib.Nat.{sub-add-cancel, div-one, zero-div, add-zero}
 use native.Mathlib.Omega.{arith}
-use lib.Dec.{ltb, leb, eqb}
-use borrow.Author.Tests.{ltb-true, lt-ltb, leb-true, le-leb, lt-leb, eqb-true, eqb-false, eq-eqb, ne-eqb}
+use lib.Dec.{eqb}
+use borrow.Author.Tests.{ltb-true, lt-ltb, eqb-true, eqb-false, eq-eqb, ne-eqb}
 use Rattle.sudoku.specs.Tests.{pick, both, bit, count}
-use Rattle.sudoku.proofs.Walks.{by-test, pick-true, pick-false, length-among, count-le, count-none, both-left, both-right, both-true, both-false-left, both-false-right}
+use Rattle.sudoku.proofs.Walks.{by-test, pick-true, pick-false, length-among, count-le, count-none, both-left, both-right, both-false-right}
 use Rattle.sudoku.specs.Grid.{inRange}
+use Rattle.sudoku.proofs.Grid.{range-from, range-to, in-range}
 use Rattle.note.specs.Note.{contains, withMark, without, isNote, powerOf, lenOf, marks, isEmpty}
 use Rattle.note.proofs.Bits.{power-le, bit-added, bit-removed, bit-added-other, bit-removed-other, added-fits, same-bits}
 
 -- ---- what the tests say in numbers
-
-pub in-range : (d : ℕ) → 1 ≤ d → d ≤ 9 → inRange d ≡ true
-unfolding inRange
-in-range d l h = both-true _ _ (le-leb 1 d l) (le-leb d 9 h)
-
-pub below-range : (d : ℕ) → d < 1 → inRange d ≡ false
-unfolding inRange
-below-range d h = both-false-left _ _ (lt-leb 1 d h)
-
-pub above-range : (d : ℕ) → 9 < d → inRange d ≡ false
-unfolding inRange
-above-range d h = both-false-right _ _ (lt-leb d 9 h)
-
-module _ (d : ℕ) (h : inRange d ≡ true) where
-  pub inRange-low : 1 ≤ d
-  unfolding inRange
-  inRange-low = leb-true _ _ (both-left _ _ h)
-
-  pub inRange-high : d ≤ 9
-  unfolding inRange
-  inRange-high = leb-true _ _ (both-right _ _ h)
 
 module _ (n d : ℕ) where
   -- a mark that stands is a digit, and its bit is 1
@@ -173,11 +153,11 @@ note-of n e l = rw (e, lt-ltb _ _ l)
 pub isNote-with : (n d : ℕ) → isNote n ≡ true → isNote (withMark n d) ≡ true
 isNote-with n d h =
     with-cases n d (λ (m : ℕ). isNote m ≡ true) h
-    (λ r a. note-of (n + 2 ^ d) (even r a) (added-fits 10 n d (omega (arith, inRange-high d r)) (isNote-small n h) a))
+    (λ r a. note-of (n + 2 ^ d) (even r a) (added-fits 10 n d (omega (arith, range-to d r)) (isNote-small n h) a))
   where
     even : inRange d ≡ true → n / 2 ^ d % 2 ≡ 0 → (n + 2 ^ d) % 2 ≡ 0
     even r a =
-        rw (div-one (n + 2 ^ d), div-one n, isNote-even n h) at (bit-added-other n d 0 (omega (arith, inRange-low d r)) a)
+        rw (div-one (n + 2 ^ d), div-one n, isNote-even n h) at (bit-added-other n d 0 (omega (arith, range-from d r)) a)
 
 pub isNote-without : (n d : ℕ) → isNote n ≡ true → isNote (without n d) ≡ true
 isNote-without n d h =
@@ -186,7 +166,7 @@ isNote-without n d h =
   where
     even : inRange d ≡ true → n / 2 ^ d % 2 ≡ 1 → (n - 2 ^ d) % 2 ≡ 0
     even r a =
-        rw (div-one (n - 2 ^ d), div-one n, isNote-even n h) at (bit-removed-other n d 0 (omega (arith, inRange-low d r)) a)
+        rw (div-one (n - 2 ^ d), div-one n, isNote-even n h) at (bit-removed-other n d 0 (omega (arith, range-from d r)) a)
 
 pub isNote-zero : isNote 0 ≡ true
 unfolding isNote both
@@ -216,14 +196,14 @@ unfolding isEmpty
 empty-contains n d h =
     by-test (inRange d)
     (λ r.
-    count-none (contains n) 9 1 d (sym (len-count n) ∙ eqb-true _ _ h) (inRange-low d r)
-    (omega (arith, inRange-high d r)))
+    count-none (contains n) 9 1 d (sym (len-count n) ∙ eqb-true _ _ h) (range-from d r)
+    (omega (arith, range-to d r)))
     (λ r. no-digit n d r)
 
 -- ---- what fits a word: the sum does where the note does, and no difference falls below 0
 
 pub with-fits : (w n d : ℕ) → 10 ≤ w → n < 2 ^ w → withMark n d < 2 ^ w
-with-fits w n d l f = with-cases n d (λ (m : ℕ). m < 2 ^ w) f (λ r a. added-fits w n d (omega (arith, inRange-high d r)) f a)
+with-fits w n d l f = with-cases n d (λ (m : ℕ). m < 2 ^ w) f (λ r a. added-fits w n d (omega (arith, range-to d r)) f a)
 
 pub power-fits : (n d : ℕ) → contains n d ≡ true → powerOf d ≤ n
 power-fits n d h = rw (power-digit d (contains-digit n d h)) (power-le n d (contains-bit n d h))

@@ -1,5 +1,6 @@
 // Notes: the marks of one cell, in a `u16`. Mark d is the bit of value 2 to the power d, d from 1 to 9.
 // Every function takes any note and any byte for a digit: what is no digit is no mark of any note.
+use sudoku::in_range;
 ghost use mathlib.Core.Path.{_≡_};
 ghost use Rattle.note.specs.Note.{contains as containsOf, withMark, without as withoutMark, lenOf, isEmpty, digitsOf, isNote, powerOf};
 
@@ -7,26 +8,20 @@ ghost use Rattle.note.specs.Note.{contains as containsOf, withMark, with
 fn power(digit: u8) -> u16
     ensures { λ r. ⌜ r ≡ powerOf digit ⌝ }
 {
-    if digit < 1 {
-        return 0;
+    if in_range(digit) {
+        return 1u16 << digit;
     }
-    if digit > 9 {
-        return 0;
-    }
-    1u16 << digit
+    0
 }
 
 // Whether the mark `digit` is written. No note holds a mark that is not a digit from 1 to 9.
 pub fn contains(note: u16, digit: u8) -> bool
     ensures { λ r. ⌜ r ≡ containsOf note digit ⌝ }
 {
-    if digit < 1 {
-        return false;
+    if in_range(digit) {
+        return (note >> digit) % 2 == 1;
     }
-    if digit > 9 {
-        return false;
-    }
-    (note >> digit) % 2 == 1
+    false
 }
 
 // The note with the mark `digit` written, or the same note for what is not a digit.
@@ -43,10 +38,10 @@ pub fn with(note: u16, digit: u8) -> u16
 pub fn without(note: u16, digit: u8) -> u16
     ensures { λ r. ⌜ r ≡ withoutMark note digit ⌝ }
 {
-    if contains(note, digit) {
-        return note - power(digit);
+    if !contains(note, digit) {
+        return note;
     }
-    note
+    note - power(digit)
 }
 
 // How many marks are written.
@@ -71,13 +66,13 @@ pub fn digits(note: u16) -> [u8; 9]
 {
     let mut marks = [0u8; 9];
     let mut n: usize = 0;
-    let mut digit: u8 = 1;
-    while digit < 10 {
-        if contains(note, digit) {
-            marks[n] = digit;
+    let mut mark: u8 = 1;
+    while mark < 10 {
+        if contains(note, mark) {
+            marks[n] = mark;
             n += 1;
         }
-        digit += 1;
+        mark += 1;
     }
     marks
 }

@@ -1,22 +1,29 @@
--- `note::contains` meets its contract: off the digits no mark stands, and on them the mark is its bit.
+-- `note::contains` meets its contract: of a digit the mark is its bit, and nothing else is a mark.
 -- Assumes nothing.
-use mathlib.Core.Path.{sym}
+use mathlib.Core.Path.{_≡_, sym, _∙_}
+use mathlib.Core.Bool.{true}
+use native.Mathlib.Omega.{arith}
 use borrow.Author.Needs.{needs}
-use Rattle.note.proofs.Note.{below-range, above-range, no-digit, bit-contains, in-range}
+use Rattle.sudoku.specs.Grid.{inRange}
+use Rattle.sudoku.proofs.Grid.{range-to}
+use Rattle.note.proofs.Note.{bit-contains, no-digit}
 use Rattle.note.proofs.contains.Statement.{statement}
 use Rattle.note.proofs.contains.Tie as tie
 
-returns : tie.Need-returns
-returns c = sym (no-digit _ _ (below-range _ (c .if1 .taken)))
+in-range-requires : tie.Need-in-range-requires
+in-range-requires c κs = search needs
 
-returns-2 : tie.Need-returns-2
-returns-2 c = sym (no-digit _ _ (above-range _ (c .if2 .taken)))
+in-digits : (c : tie.Then1) → inRange (c .before .before .args .digit) ≡ true
+in-digits c = sym (c .before .in-range .ensures) ∙ c .if1 .taken
 
 shr-result : tie.Need-shr-result
-shr-result c = search needs
+shr-result c = omega (arith, range-to _ (in-digits c))
 
-returns-3 : tie.Need-returns-3
-returns-3 c = sym (bit-contains _ _ (in-range _ (c .before .if1 .left) (c .if2 .left)))
+returns : tie.Need-returns
+returns c = sym (bit-contains _ _ (in-digits c))
+
+returns-2 : tie.Need-returns-2
+returns-2 c = sym (no-digit _ _ (sym (c .before .in-range .ensures) ∙ c .if1 .left))
 
 pub contains-spec : {M : Type 1} → statement M
-contains-spec = tie.close (tie.spec returns returns-2 shr-result returns-3)
+contains-spec = tie.close (tie.spec in-range-requires shr-result returns returns-2)

@@ -1,4 +1,4 @@
--- `note::digits` meets its contract. The loop's invariant: the marks from `digit` on, stored from place n on, complete the answer.
+-- `note::digits` meets its contract. The loop's invariant: the marks from `mark` on, stored from place n on, complete the answer.
 -- Assumes nothing.
 use Prim.Native.Nat.{ℕ, zero, suc, _≤_, _<_, _+_, _-_}
 use mathlib.Core.Path.{_≡_, refl, sym, ap, _∙_}
@@ -40,11 +40,11 @@ module _ (note : ℕ) (l : List ℕ) (n d : ℕ) (u : d < 10) where
   turn-skipped h = rw (among-skips (contains note) 10 d u h)
 
 abbrev Inv-loop : tie.InvT-loop
-Inv-loop note marks₀ n₀ digit₀ marks n digit =
-    (1 ≤ digit) × (digit ≤ 10) × (n < digit) × (digitsOf note ≡ sets marks n (among (contains note) (10 - digit) digit))
+Inv-loop note marks₀ n₀ mark₀ marks n mark =
+    (1 ≤ mark) × (mark ≤ 10) × (n < mark) × (digitsOf note ≡ sets marks n (among (contains note) (10 - mark) mark))
 
 abbrev μ-loop : tie.MeasureT-loop
-μ-loop note marks₀ n₀ digit₀ marks n digit = 10 - digit
+μ-loop note marks₀ n₀ mark₀ marks n mark = 10 - mark
 
 loop-holds : tie.Need-loop-holds Inv-loop μ-loop
 unfolding marks
@@ -59,8 +59,8 @@ array-write-marks c = omega arith
 add-n : tie.Need-add-n Inv-loop μ-loop
 add-n c = omega arith
 
-add-digit : tie.Need-add-digit Inv-loop μ-loop
-add-digit c = omega arith
+add-mark : tie.Need-add-mark Inv-loop μ-loop
+add-mark c = omega arith
 
 loop-less : tie.Need-loop-less Inv-loop μ-loop
 loop-less c = omega arith
@@ -88,7 +88,7 @@ digits-spec =
     contains-requires
     array-write-marks
     add-n
-    add-digit
+    add-mark
     loop-less
     loop-again
     returns)
