@@ -1,14 +1,13 @@
 -- The bits of a number, by arithmetic: bit d of n is `n / 2 ^ d % 2`. What adding 2 ^ d does where bit d is 0 and what
 -- subtracting it does where bit d is 1, at any place and any width; and two numbers with the same bits are equal.
 -- Assumes nothing.
-use mathlib.Core.Path.{_≡_, refl, sym, ap, _∙_}
+use mathlib.Core.Path.{_≡_, sym, ap, _∙_}
 use mathlib.Core.Logic.{_≢_}
-use mathlib.Core.Bool.{Bool, true, false}
 use Prim.Native.Nat.{ℕ, zero, suc, _+_, _-_, _*_, _/_, _%_, _^_, _≤_, _<_}
 use native.Mathlib.Nat.{mul-assoc, mul-comm, div-one, pow-suc, pow-succ', add-div-right, add-mul-div-left, div-div-eq-div-mul, div-lt-iff-lt-mul, div-eq-of-lt, add-sub-of-le, sub-add-cancel}
 use native.Mathlib.Omega.{arith}
 use lib.Dec.{ltb}
-use lib.Pow.{pow-pos, pow-add, shr-shr}
+use lib.Pow.{pow-pos, pow-add}
 use borrow.Author.Tests.{ltb-true, ltb-false}
 use Rattle.sudoku.proofs.Walks.{by-test}
 

@@ -1,14 +1,14 @@
 -- The laws of a note and its marks, for any note and any digits: writing and striking undo each other, change one mark only, change
 -- nothing where there is nothing to do, and keep a note a note; and a note is no more than its marks.
 -- Assumes nothing.
-use mathlib.Core.Path.{_≡_, refl, sym, ap, _∙_}
+use mathlib.Core.Path.{_≡_, refl, sym, _∙_}
 use mathlib.Core.Logic.{_≢_}
-use mathlib.Core.Bool.{Bool, true, false}
-use Prim.Native.Nat.{ℕ, zero, suc, _+_, _-_, _*_, _/_, _%_, _^_, _≤_, _<_}
+use mathlib.Core.Bool.{true, false}
+use Prim.Native.Nat.{ℕ, zero, suc, _+_, _-_, _/_, _%_, _^_, _≤_, _<_}
 use native.Mathlib.Nat.{sub-add-cancel, div-one, zero-div, add-zero}
 use native.Mathlib.Omega.{arith}
 use lib.Dec.{eqb}
-use borrow.Author.Tests.{ltb-true, lt-ltb, eqb-true, eqb-false, eq-eqb, ne-eqb}
+use borrow.Author.Tests.{ltb-true, lt-ltb, eqb-true, eqb-false}
 use Rattle.sudoku.specs.Tests.{pick, both, bit, count}
 use Rattle.sudoku.proofs.Walks.{by-test, pick-true, pick-false, length-among, count-le, count-none, both-left, both-right, both-false-right}
 use Rattle.sudoku.specs.Grid.{inRange}
@@ -223,3 +223,7 @@ same-marks n m hn hm h = same-bits 10 n m (isNote-small n hn) (isNote-small m hm
     by (suc d) l =
         let r : inRange (suc d) ≡ true = in-range (suc d) (omega arith) (omega arith) in
         same-bit _ _ (rw (bit-contains n (suc d) r, bit-contains m (suc d) r) at (h (suc d) r))
+
+-- an empty note is 0
+pub empty-zero : (n : ℕ) → isNote n ≡ true → isEmpty n ≡ true → n ≡ 0
+empty-zero n h e = same-marks n 0 h isNote-zero (λ d r. empty-contains n d e ∙ sym (contains-zero d))

@@ -1,8 +1,7 @@
 -- `note::with` meets its contract; the sum fits, since the bit that it adds is not there.
 -- Assumes nothing.
-use mathlib.Core.Path.{_≡_, sym, ap, _∙_}
-use mathlib.Core.Bool.{false}
-use Prim.Native.Nat.{_+_, _<_, _^_}
+use mathlib.Core.Path.{_≡_, sym, _∙_}
+use Prim.Native.Nat.{_+_}
 use native.Mathlib.Omega.{arith}
 use borrow.Author.Needs.{needs}
 use Rattle.note.specs.Note.{withMark}
