@@ -19,7 +19,7 @@ use Rattle.journal.specs.StoredChecks.{storedAll}
 use Rattle.board.specs.declared.Board.{Board}
 use Rattle.board.specs.Board.{boardOf}
 use Rattle.board.specs.Open.{Opened, answer, openOf, openedFresh, noMoves, noChecks}
-use Rattle.record.specs.Write.{writeOf, wrote}
+use Rattle.record.specs.Write.{Wrote, writeOf, wrote}
 use Rattle.record.specs.Reopen.{reopenOf}
 use Rattle.session.specs.declared.Call.{Call}
 use Rattle.session.specs.Session.{Session, after, answers, started}
@@ -39,6 +39,10 @@ reopenedBook k =
       checks = over noChecks 0 (storedAll (k .checks));
     }
 
+-- a session's record written into an output
+unfoldable pub writeSession : Session → List ℕ → Wrote
+writeSession s output = writeOf (s .board) (s .journal) (s .checks) output
+
 -- after a list of calls, with s what the calls' definitions leave and k what the book holds
 pub record Kept (s : Session) (k : Book) : Type 0 where
   pub board : s .board ≡ boardIn k
@@ -48,7 +52,7 @@ pub record Kept (s : Session) (k : Book) : Type 0 where
   pub written :
       (output : List ℕ)
       → length output ≡ recordBytes
-      → writeOf (s .board) (s .journal) (s .checks) output ≡ wrote accepted (length (recordIn k)) (over output 0 (recordIn k))
+      → writeSession s output ≡ wrote accepted (length (recordIn k)) (over output 0 (recordIn k))
   pub reopens :
       (journal checks : List ℕ)
       → length journal ≡ journalBytes
@@ -64,7 +68,10 @@ pub record Writable (bytes solution : List ℕ) : Type 0 where
   pub givens : List Given
   pub opens : Opens givens solution
   pub calls : List Call
-  pub writes : recordIn (keep (newBook givens solution) calls) ≡ bytes
+  pub writes :
+      (output : List ℕ)
+      → length output ≡ recordBytes
+      → writeSession (after (started (openedFresh givens solution)) calls) output ≡ wrote accepted (length bytes) (over output 0 bytes)
 
 pub record Demand3 : Type 0 where
   pub opened :
