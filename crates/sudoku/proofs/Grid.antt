@@ -113,6 +113,22 @@ pub on-grid : (row column : ℕ) → inRange row ≡ true → inRange column ≡
 unfolding onGrid
 on-grid row column p q = both-true (inRange row) (inRange column) p q
 
+-- what a position on the grid tells of its row and column
+pub record Bounds (row column : ℕ) : Type 0 where
+  pub row-from : 1 ≤ row
+  pub row-to : row ≤ 9
+  pub column-from : 1 ≤ column
+  pub column-to : column ≤ 9
+
+pub grid-bounds : (row column : ℕ) → onGrid row column ≡ true → Bounds row column
+grid-bounds row column p =
+    record {
+      row-from = range-from row (grid-row row column p);
+      row-to = range-to row (grid-row row column p);
+      column-from = range-from column (grid-column row column p);
+      column-to = range-to column (grid-column row column p);
+    }
+
 -- off the grid
 pub cell-off : (row column : ℕ) → onGrid row column ≡ false → cellOf row column ≡ 0
 unfolding cellOf
@@ -120,17 +136,8 @@ cell-off row column p = pick-false (onGrid row column) (9 * (row - 1) + column) 
 
 -- on the grid
 module _ (row column : ℕ) (p : onGrid row column ≡ true) where
-  row-from : 1 ≤ row
-  row-from = range-from row (grid-row row column p)
-
-  row-to : row ≤ 9
-  row-to = range-to row (grid-row row column p)
-
-  column-from : 1 ≤ column
-  column-from = range-from column (grid-column row column p)
-
-  column-to : column ≤ 9
-  column-to = range-to column (grid-column row column p)
+  bounds : Bounds row column
+  bounds = grid-bounds row column p
 
   pub cell-on : cellOf row column ≡ 9 * (row - 1) + column
   unfolding cellOf
@@ -138,24 +145,24 @@ module _ (row column : ℕ) (p : onGrid row column ≡ true) where
 
   pub cell-of-is-cell : isCell (cellOf row column) ≡ true
   cell-of-is-cell =
-      is-cell (cellOf row column) (omega (arith, cell-on, column-from))
-      (omega (arith, cell-on, row-to, column-to))
+      is-cell (cellOf row column) (omega (arith, cell-on, bounds))
+      (omega (arith, cell-on, bounds))
 
   -- the number of the cell, less one, is nine for each row before its own, and one for each cell before it in its row
   less-one : cellOf row column - 1 ≡ 9 * (row - 1) + (column - 1)
-  less-one = omega (arith, cell-on, column-from)
+  less-one = omega (arith, cell-on, bounds)
 
   pub row-of-cell : rowOf (cellOf row column) ≡ row
   unfolding rowOf
   row-of-cell =
       omega
-      (arith, less-one, row-from, column-from, column-to, div-add-mod' (cellOf row column - 1) 9, mod-lt (cellOf row column - 1) {m = 9} (omega arith))
+      (arith, less-one, bounds, div-add-mod' (cellOf row column - 1) 9, mod-lt (cellOf row column - 1) {m = 9} (omega arith))
 
   pub column-of-cell : columnOf (cellOf row column) ≡ column
   unfolding columnOf
   column-of-cell =
       omega
-      (arith, less-one, row-from, column-from, column-to, div-add-mod' (cellOf row column - 1) 9, mod-lt (cellOf row column - 1) {m = 9} (omega arith))
+      (arith, less-one, bounds, div-add-mod' (cellOf row column - 1) 9, mod-lt (cellOf row column - 1) {m = 9} (omega arith))
 
 -- for every position
 pub cell-le : (row column : ℕ) → cellOf row column ≤ 81
@@ -198,6 +205,14 @@ module _ (cell : ℕ) (p : isCell cell ≡ true) where
 
 -- ---- peers
 
+-- each of the 81 cells has twenty peers: one test, computed
+hasTwenty : ℕ → Bool
+hasTwenty cell = eqb (count (arePeers cell) 81 1) 20
+
+all-have-twenty : every hasTwenty 81 1 ≡ true
+unfolding hasTwenty every count arePeers isPeerOf rowOf columnOf boxIndex both either bit
+all-have-twenty = refl
+
 eqb-comm : (a b : ℕ) → eqb a b ≡ eqb b a
 eqb-comm a b =
     same-test (eqb a b) (eqb b a) (λ t. eq-eqb b a (sym (eqb-true a b t))) (λ t. eq-eqb a b (sym (eqb-true b a t)))
@@ -239,14 +254,6 @@ pub peers-of-cells : (row column row′ column′ : ℕ) → onGrid row column �
 unfolding arePeers
 peers-of-cells row column row′ column′ p p′ =
     λ j. isPeerOf (row-of-cell row column p j) (column-of-cell row column p j) (row-of-cell row′ column′ p′ j) (column-of-cell row′ column′ p′ j)
-
--- each of the 81 cells has twenty peers: one test, computed
-hasTwenty : ℕ → Bool
-hasTwenty cell = eqb (count (arePeers cell) 81 1) 20
-
-all-have-twenty : every hasTwenty 81 1 ≡ true
-unfolding hasTwenty every count arePeers isPeerOf rowOf columnOf boxIndex both either bit
-all-have-twenty = refl
 
 pub peers-on : (cell : ℕ) → isCell cell ≡ true → peersOf cell ≡ among (arePeers cell) 81 1
 unfolding peersOf

@@ -74,12 +74,12 @@ pub fn column_of(cell: usize) -> usize
     (cell - 1) % LINE + 1
 }
 
-// Which band a row is in, or which stack a column is. A line of 0, which no grid has, counts as line 1 does.
+// Which band a row is in, or which stack a column is, for every byte.
 pub fn box_index(line: u8) -> u8
     ensures { λ r. ⌜ r ≡ boxIndex line ⌝ }
 {
     if line == 0 {
-        return 1;
+        return 1; // the byte less one does not go below 0
     }
     (line - 1) / BOX_SIDE + 1
 }
@@ -111,7 +111,10 @@ pub fn is_peer_of(row: u8, column: u8, row2: u8, column2: u8) -> bool
     if band(row) != band(row2) {
         return false;
     }
-    stack(column) == stack(column2)
+    if stack(column) != stack(column2) {
+        return false;
+    }
+    true // they share a box
 }
 
 // Twenty entries of the table, from `start` on.

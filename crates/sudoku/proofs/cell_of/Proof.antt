@@ -5,7 +5,7 @@ use mathlib.Core.Bool.{true}
 use native.Mathlib.Omega.{arith}
 use borrow.Author.Needs.{needs}
 use Rattle.sudoku.specs.Grid.{onGrid}
-use Rattle.sudoku.proofs.Grid.{cell-on, cell-off, cell-le, grid-row, range-from}
+use Rattle.sudoku.proofs.Grid.{cell-on, cell-off, cell-le, grid-bounds}
 use Rattle.sudoku.proofs.cell_of.Statement.{statement}
 use Rattle.sudoku.proofs.cell_of.Tie as tie
 
@@ -18,7 +18,7 @@ wide-requires c κs = search needs
 sub-result : tie.Need-sub-result
 sub-result c =
     let p : onGrid (c .before .before .before .args .row) (c .before .before .before .args .column) ≡ true = sym (c .before .before .on-grid .ensures) ∙ c .before .if1 .taken in
-    omega (arith, range-from (c .before .before .before .args .row) (grid-row (c .before .before .before .args .row) (c .before .before .before .args .column) p))
+    omega (arith, grid-bounds (c .before .before .before .args .row) (c .before .before .before .args .column) p)
 
 mul-result : tie.Need-mul-result
 mul-result c = search needs

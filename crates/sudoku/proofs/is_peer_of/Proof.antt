@@ -1,14 +1,13 @@
--- `sudoku::is_peer_of` meets its contract: each of its four returns is the definition where the tests before it have gone as they did.
+-- `sudoku::is_peer_of` meets its contract: each of its five returns is the definition where the tests before it have gone as they did.
 -- Assumes nothing.
 use Prim.Native.Nat.{ℕ}
-use mathlib.Core.Path.{_≡_, refl, sym, _∙_}
+use mathlib.Core.Path.{_≡_, sym, _∙_}
 use mathlib.Core.Bool.{true, false, not}
 use borrow.Author.Needs.{needs}
 use borrow.Author.Tests.{eq-eqb, ne-eqb}
 use lib.Dec.{eqb}
 use Rattle.sudoku.specs.Tests.{both, either}
 use Rattle.sudoku.specs.Grid.{isPeerOf, boxIndex}
-use Rattle.sudoku.proofs.Walks.{both-second}
 use Rattle.sudoku.proofs.is_peer_of.Statement.{statement}
 use Rattle.sudoku.proofs.is_peer_of.Tie as tie
 
@@ -27,11 +26,16 @@ module _ (row column row′ column′ : ℕ) where
       unfolding isPeerOf both either
       in-two-bands b = rw (ne-eqb row row′ h, ne-eqb column column′ k, ne-eqb (boxIndex row) (boxIndex row′) b)
 
-      in-one-band : boxIndex row ≡ boxIndex row′ → isPeerOf row column row′ column′ ≡ eqb (boxIndex column) (boxIndex column′)
-      unfolding isPeerOf both either
-      in-one-band b =
-          rw (ne-eqb row row′ h, ne-eqb column column′ k, eq-eqb (boxIndex row) (boxIndex row′) b)
-          (both-second (eqb (boxIndex column) (boxIndex column′)) true refl)
+      module _ (b : boxIndex row ≡ boxIndex row′) where
+        in-two-stacks : (boxIndex column ≡ boxIndex column′ → ⊥) → isPeerOf row column row′ column′ ≡ false
+        unfolding isPeerOf both either
+        in-two-stacks s =
+            rw (ne-eqb row row′ h, ne-eqb column column′ k, eq-eqb (boxIndex row) (boxIndex row′) b, ne-eqb (boxIndex column) (boxIndex column′) s)
+
+        in-one-box : boxIndex column ≡ boxIndex column′ → isPeerOf row column row′ column′ ≡ true
+        unfolding isPeerOf both either
+        in-one-box s =
+            rw (ne-eqb row row′ h, ne-eqb column column′ k, eq-eqb (boxIndex row) (boxIndex row′) b, eq-eqb (boxIndex column) (boxIndex column′) s)
 
 returns : tie.Need-returns
 returns c = sym (in-one-row (c .before .args .row) (c .before .args .column) (c .before .args .row2) (c .before .args .column2) (c .if1 .taken))
@@ -58,9 +62,15 @@ stack-requires-2 c κs = search needs
 
 returns-4 : tie.Need-returns-4
 returns-4 c =
-    rw (c .before .stack .ensures, c .stack2 .ensures)
-    (sym (in-one-band (c .before .before .before .before .before .before .before .args .row) (c .before .before .before .before .before .before .before .args .column) (c .before .before .before .before .before .before .before .args .row2) (c .before .before .before .before .before .before .before .args .column2) (c .before .before .before .before .before .before .if1 .left) (c .before .before .before .before .before .if2 .left)
-    (sym (c .before .before .before .before .band .ensures) ∙ c .before .before .if3 .left ∙ c .before .before .before .band2 .ensures)))
+    sym (in-two-stacks (c .before .before .before .before .before .before .before .before .args .row) (c .before .before .before .before .before .before .before .before .args .column) (c .before .before .before .before .before .before .before .before .args .row2) (c .before .before .before .before .before .before .before .before .args .column2) (c .before .before .before .before .before .before .before .if1 .left) (c .before .before .before .before .before .before .if2 .left)
+    (sym (c .before .before .before .before .before .band .ensures) ∙ c .before .before .before .if3 .left ∙ c .before .before .before .before .band2 .ensures)
+    (λ e. c .if4 .taken (c .before .before .stack .ensures ∙ e ∙ sym (c .before .stack2 .ensures))))
+
+returns-5 : tie.Need-returns-5
+returns-5 c =
+    sym (in-one-box (c .before .before .before .before .before .before .before .before .args .row) (c .before .before .before .before .before .before .before .before .args .column) (c .before .before .before .before .before .before .before .before .args .row2) (c .before .before .before .before .before .before .before .before .args .column2) (c .before .before .before .before .before .before .before .if1 .left) (c .before .before .before .before .before .before .if2 .left)
+    (sym (c .before .before .before .before .before .band .ensures) ∙ c .before .before .before .if3 .left ∙ c .before .before .before .before .band2 .ensures)
+    (sym (c .before .before .stack .ensures) ∙ c .if4 .left ∙ c .before .stack2 .ensures))
 
 pub is-peer-of-spec : {M : Type 1} → statement M
 is-peer-of-spec =
@@ -73,4 +83,5 @@ is-peer-of-spec =
     returns-3
     stack-requires
     stack-requires-2
-    returns-4)
+    returns-4
+    returns-5)
