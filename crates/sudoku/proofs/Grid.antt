@@ -6,13 +6,13 @@ use mathlib.Core.Bool.{Bool, true, false, not}
 use mathlib.Core.List.{List, [], _∷_}
 use native.Mathlib.Nat.{div-add-mod', mod-lt}
 use native.Mathlib.Omega.{arith}
-use borrow.Author.Tests.{leb-true, leb-false, le-leb, lt-leb, eq-eqb, ne-eqb, eqb-true, eqb-false}
-use lib.Dec.{leb, eqb}
-use lib.ListN.{length, getD, set, replicate, length-set}
+use borrow.Author.Tests.{ltb-true, ltb-false, leb-true, leb-false, le-leb, lt-leb, eq-eqb, ne-eqb, eqb-true, eqb-false}
+use lib.Dec.{leb, ltb, eqb}
+use lib.ListN.{length, getD, set, replicate, length-set, getD-replicate, List·getD-eq-default}
 use lib.Seq.{getD-set-same, getD-set-other, set-getD, set-set, set-comm, ext-getD}
-use Rattle.sudoku.specs.Tests.{pick, both, either, bit, every, count, among}
+use Rattle.sudoku.specs.Tests.{pick, both, either, bit, every, some, count, among}
 use Rattle.sudoku.specs.Grid.{inRange, onGrid, cellOf, isCell, rowOf, columnOf, boxIndex, isPeerOf, arePeers, peersOf, at, put}
-use Rattle.sudoku.proofs.Walks.{by-test, both-true, both-left, both-right, both-false-left, both-false-right, both-comm, pick-true, pick-false, every-at, length-among, among-at, among-has, among-ascends, Passes, Entry, same-test, not-both-ways}
+use Rattle.sudoku.proofs.Walks.{by-test, both-true, both-left, both-right, both-false-left, both-false-right, both-comm, pick-true, pick-false, every-at, every-among, some-among, length-among, among-at, among-has, among-ascends, Passes, Entry, same-test, not-both-ways}
 
 -- ---- cells
 
@@ -328,3 +328,24 @@ peers-has cell other p q h =
           within = omega (arith, w .within, ap length (peers-on cell p), peers-length cell);
           is = ap (λ (l : List ℕ). getD l (w .at) 0) (peers-on cell p) ∙ w .is;
         }
+
+-- a test of each peer, or of one, by their place among the twenty and by their number
+pub every-peers : (g : ℕ → Bool) (cell : ℕ) → isCell cell ≡ true
+    → every (λ i. g (getD (peersOf cell) i 0)) 20 0 ≡ every (λ other. either (not (arePeers cell other)) (g other)) 81 1
+every-peers g cell p =
+    ap (λ (l : List ℕ). every (λ i. g (getD l i 0)) 20 0) (peers-on cell p)
+    ∙ every-among (arePeers cell) g 81 1 20 (sym (ap length (peers-on cell p)) ∙ peers-length cell)
+
+pub some-peers : (g : ℕ → Bool) (cell : ℕ) → isCell cell ≡ true
+    → some (λ i. g (getD (peersOf cell) i 0)) 20 0 ≡ some (λ other. both (arePeers cell other) (g other)) 81 1
+some-peers g cell p =
+    ap (λ (l : List ℕ). some (λ i. g (getD l i 0)) 20 0) (peers-on cell p)
+    ∙ some-among (arePeers cell) g 81 1 20 (sym (ap length (peers-on cell p)) ∙ peers-length cell)
+
+-- at any index of any cell's peers, also off the grid and past the twenty
+pub peers-le : (cell i : ℕ) → getD (peersOf cell) i 0 ≤ 81
+peers-le cell i =
+    by-test (ltb i 20)
+    (λ t. by-test (isCell cell) (λ p. peers-to cell p i (ltb-true i 20 t))
+    (λ p. omega (arith, ap (λ (l : List ℕ). getD l i 0) (peers-off cell p), getD-replicate {A = ℕ} 20 i 0 0 (ltb-true i 20 t))))
+    (λ t. omega (arith, List·getD-eq-default (peersOf cell) 0 {n = i} (omega (arith, ltb-false i 20 t, peers-length cell))))

@@ -6,8 +6,8 @@ use Prim.Native.Nat.{ℕ, zero, suc, _+_, _-_, _≤_, _<_}
 use mathlib.Core.Path.{_≡_, refl, sym, ap, subst, _∙_}
 use mathlib.Core.Logic.{⊎-elim}
 use mathlib.Core.Bool.{Bool, true, false, not}
-use mathlib.Core.List.{List, [], _∷_, _++_, append-assoc}
-use native.Mathlib.Nat.{eq-or-lt-of-le, sub-eq-zero-of-le, suc-add, add-suc, zero-add, add-zero, le-of-suc-le-suc, not-suc-le-zero}
+use mathlib.Core.List.{List, [], _∷_}
+use native.Mathlib.Nat.{eq-or-lt-of-le, sub-eq-zero-of-le, suc-add, add-suc, zero-add, add-zero, add-assoc, le-of-suc-le-suc, not-suc-le-zero}
 use native.Mathlib.Numerals.{add-one}
 use native.Mathlib.Omega.{arith}
 use lib.ListN.{length, getD}
@@ -92,6 +92,16 @@ both-comm true true = refl
 both-comm true false = refl
 both-comm false true = refl
 both-comm false false = refl
+
+pub both-assoc : (a b c : Bool) → both (both a b) c ≡ both a (both b c)
+unfolding both
+both-assoc true b c = refl
+both-assoc false b c = refl
+
+pub not-both : (a b : Bool) → not (both a b) ≡ either (not a) (not b)
+unfolding both either
+not-both true b = refl
+not-both false b = refl
 
 -- ---- either
 
@@ -322,6 +332,31 @@ module _ (f g : ℕ → Bool) where
   among-same (suc n) i h =
       λ j. keep (h i (omega arith) (omega arith) j) i (among-same n (suc i) (λ k l u. h k (omega arith) (omega arith)) j)
 
+-- ---- the first n, then the m after them
+
+module _ (f : ℕ → Bool) where
+  pub every-join : (n m i : ℕ) → every f (n + m) i ≡ both (every f n i) (every f m (i + n))
+  unfolding every both
+  every-join zero m i = λ j. every f (zero-add m j) (sym (add-zero i) j)
+  every-join (suc n) m i =
+      ap (λ (k : ℕ). every f k i) (suc-add n m)
+      ∙ ap (λ (t : Bool). both (f i) t) (every-join n m (suc i) ∙ ap (λ (k : ℕ). both (every f n (suc i)) (every f m k)) (suc-add i n ∙ sym (add-suc i n)))
+      ∙ sym (both-assoc (f i) (every f n (suc i)) (every f m (i + suc n)))
+
+  pub count-join : (n m i : ℕ) → count f (n + m) i ≡ count f n i + count f m (i + n)
+  unfolding count
+  count-join zero m i = (λ j. count f (zero-add m j) (sym (add-zero i) j)) ∙ sym (zero-add (count f m (i + zero)))
+  count-join (suc n) m i =
+      ap (λ (k : ℕ). count f k i) (suc-add n m)
+      ∙ ap (λ (t : ℕ). bit (f i) + t) (count-join n m (suc i) ∙ ap (λ (k : ℕ). count f n (suc i) + count f m k) (suc-add i n ∙ sym (add-suc i n)))
+      ∙ sym (add-assoc (bit (f i)) (count f n (suc i)) (count f m (i + suc n)))
+
+-- not each passes: one does not
+pub not-every : (f : ℕ → Bool) (n i : ℕ) → not (every f n i) ≡ some (λ k. not (f k)) n i
+unfolding every some
+not-every f zero i = refl
+not-every f (suc n) i = not-both (f i) (every f n (suc i)) ∙ ap (λ (t : Bool). either (not (f i)) t) (not-every f n (suc i))
+
 -- ---- counting
 
 bit-le : (t : Bool) → bit t ≤ 1
@@ -437,6 +472,53 @@ among-ascends f zero i j k h u = absurd (not-suc-le-zero u)
 among-ascends f (suc n) i j k h u =
     kept-ascends (f i) i (among f n (suc i)) (λ m w. among-at f n (suc i) m w .from)
     (λ m w. among-ascends f n (suc i) m w) j k h u
+
+-- the test g at each of those at which f holds, by their place in the list and by their number
+pub every-among : (f g : ℕ → Bool) (n i m : ℕ) → length (among f n i) ≡ m
+    → every (λ j. g (getD (among f n i) j 0)) m 0 ≡ every (λ k. either (not (f k)) (g k)) n i
+every-among f g n i m e =
+    same-test (every at-place m 0) (every at-number n i)
+    (λ p. every-of at-number n i
+    (λ k l u. by-test (f k) (λ h. either-right (not (f k)) (g k) (there p k (among-has f n i k l u h)))
+    (λ h. either-left (not (f k)) (g k) (ap not h))))
+    (λ p. every-of at-place m 0 (λ j l u. here p j (omega arith)))
+  where
+    at-place : ℕ → Bool
+    at-place j = g (getD (among f n i) j 0)
+
+    at-number : ℕ → Bool
+    at-number k = either (not (f k)) (g k)
+
+    there : every at-place m 0 ≡ true → (k : ℕ) → Entry (among f n i) k → g k ≡ true
+    there p k w = ap g (sym (w .is)) ∙ every-at at-place m 0 (w .at) p (omega arith) (omega (arith, w .within, e))
+
+    here : every at-number n i ≡ true → (j : ℕ) → j < m → at-place j ≡ true
+    here p j u =
+        let w : Passes f n i (getD (among f n i) j 0) = among-at f n i j (omega (arith, e)) in
+        sym (either-second (not (f (getD (among f n i) j 0))) (g (getD (among f n i) j 0)) (ap not (w .is)))
+        ∙ every-at at-number n i (getD (among f n i) j 0) p (w .from) (w .below)
+
+pub some-among : (f g : ℕ → Bool) (n i m : ℕ) → length (among f n i) ≡ m
+    → some (λ j. g (getD (among f n i) j 0)) m 0 ≡ some (λ k. both (f k) (g k)) n i
+some-among f g n i m e =
+    same-test (some at-place m 0) (some at-number n i) (λ p. here (some-at at-place m 0 p)) (λ p. there (some-at at-number n i p))
+  where
+    at-place : ℕ → Bool
+    at-place j = g (getD (among f n i) j 0)
+
+    at-number : ℕ → Bool
+    at-number k = both (f k) (g k)
+
+    here : Place at-place true m 0 → some at-number n i ≡ true
+    here q =
+        let w : Passes f n i (getD (among f n i) (q .at) 0) = among-at f n i (q .at) (omega (arith, e, q .below)) in
+        some-of at-number n i (getD (among f n i) (q .at) 0) (w .from) (w .below)
+        (both-true (f (getD (among f n i) (q .at) 0)) (g (getD (among f n i) (q .at) 0)) (w .is) (q .is))
+
+    there : Place at-number true n i → some at-place m 0 ≡ true
+    there q =
+        let w : Entry (among f n i) (q .at) = among-has f n i (q .at) (q .from) (q .below) (both-left (f (q .at)) (g (q .at)) (q .is)) in
+        some-of at-place m 0 (w .at) (omega arith) (omega (arith, e, w .within)) (ap g (w .is) ∙ both-right (f (q .at)) (g (q .at)) (q .is))
 
 -- ---- a run
 
