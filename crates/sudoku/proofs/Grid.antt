@@ -1,18 +1,18 @@
 -- The laws of specs/Grid: cells and positions, what stands at a cell and is put there, and the peers of a cell.
 -- Assumes nothing.
-use Prim.Native.Nat.{ℕ, zero, suc, _+_, _-_, _*_, _/_, _%_, _≤_, _<_}
+use Prim.Native.Nat.{ℕ, _+_, _-_, _*_, _/_, _%_, _≤_, _<_}
 use mathlib.Core.Path.{_≡_, refl, sym, ap, subst, _∙_}
 use mathlib.Core.Bool.{Bool, true, false, not}
-use mathlib.Core.List.{List, [], _∷_}
+use mathlib.Core.List.{List}
 use native.Mathlib.Nat.{div-add-mod', mod-lt}
 use native.Mathlib.Omega.{arith}
-use borrow.Author.Tests.{ltb-true, ltb-false, leb-true, leb-false, le-leb, lt-leb, eq-eqb, ne-eqb, eqb-true, eqb-false}
+use borrow.Author.Tests.{ltb-true, ltb-false, leb-true, leb-false, le-leb, lt-leb, eq-eqb, eqb-true, eqb-false}
 use lib.Dec.{leb, ltb, eqb}
-use lib.ListN.{length, getD, set, replicate, length-set, getD-replicate, List·getD-eq-default}
+use lib.ListN.{length, getD, replicate, length-set, getD-replicate, List·getD-eq-default}
 use lib.Seq.{getD-set-same, getD-set-other, set-getD, set-set, set-comm, ext-getD}
 use Rattle.sudoku.specs.Tests.{pick, both, either, bit, every, some, count, among}
 use Rattle.sudoku.specs.Grid.{inRange, onGrid, cellOf, isCell, rowOf, columnOf, boxIndex, isPeerOf, arePeers, peersOf, at, put}
-use Rattle.sudoku.proofs.Walks.{by-test, both-true, both-left, both-right, both-false-left, both-false-right, both-comm, pick-true, pick-false, every-at, every-among, some-among, length-among, among-at, among-has, among-ascends, Passes, Entry, same-test, not-both-ways}
+use Rattle.sudoku.proofs.Walks.{by-test, both-true, both-left, both-right, both-false-right, pick-true, pick-false, every-at, every-among, some-among, length-among, among-at, among-has, among-ascends, Passes, Entry, same-test, not-both-ways}
 
 -- ---- cells
 

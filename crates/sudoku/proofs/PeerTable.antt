@@ -1,6 +1,6 @@
 -- The table of peers: twenty entries for each cell, cell 1 first. Its rule is one test, which antt computes over the whole table, and `table-peers` makes of it what stands for each cell.
 -- Assumes nothing.
-use Prim.Native.Nat.{ℕ, suc, _+_, _-_, _*_, _≤_, _<_}
+use Prim.Native.Nat.{ℕ, _+_, _-_, _*_, _<_}
 use mathlib.Core.Path.{_≡_, refl, sym, ap, _∙_}
 use mathlib.Core.Bool.{Bool, true, false}
 use mathlib.Core.List.{List, [], _∷_, _++_}
