@@ -1,3 +1,4 @@
 pub mod Walks
 pub mod Grid
 pub mod PeerTable
+pub mod Counting

@@ -241,7 +241,7 @@ module _ {A : Type 0} (f : A → ℕ → A) (a : A) (e i : ℕ) where
 -- ---- a walk and its numbers
 
 -- k is i or lies beyond it
-from-here : {A : Type 0} (i k : ℕ) → i ≤ k → (i ≡ k → A) → (suc i ≤ k → A) → A
+pub from-here : {A : Type 0} (i k : ℕ) → i ≤ k → (i ≡ k → A) → (suc i ≤ k → A) → A
 from-here i k h here beyond = ⊎-elim here beyond (eq-or-lt-of-le h)
 
 pub every-at : (f : ℕ → Bool) (n i k : ℕ) → every f n i ≡ true → i ≤ k → k < i + n → f k ≡ true
