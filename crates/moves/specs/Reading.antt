@@ -16,7 +16,7 @@ use Rattle.journal.specs.State.{State, isGiven, performAgain}
 use Rattle.journal.specs.Slots.{slotAt, moveOf}
 use Rattle.board.specs.declared.Board.{Board}
 use Rattle.board.specs.Board.{stateOf, isBoard}
-use Rattle.board.specs.Play.{unsoundSlot}
+use Rattle.play.specs.Play.{unsoundSlot}
 use Rattle.moves.specs.declared.Reading.{Reading}
 
 -- the board's givens and empty notes

@@ -20,7 +20,7 @@ use Rattle.journal.specs.State.{State, isGiven}
 use Rattle.board.specs.declared.Board.{Board}
 use Rattle.board.specs.Board.{stateOf, countsOf, boardOf, fresh}
 use Rattle.board.specs.Open.{Opened, answer, noMoves, noChecks, lentLengths, wrongLength, turnedAway}
-use Rattle.board.specs.Play.{Played, played, moveTests, recordMove, undoOf}
+use Rattle.play.specs.Play.{Played, played, moveTests, recordMove, undoOf}
 use Rattle.journal.specs.StoredChecks.{Stored, isRight, judge, storedAll}
 use Rattle.record.specs.declared.Asked.{Asked}
 use Rattle.record.specs.Items.{Parts}

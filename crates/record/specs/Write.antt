@@ -19,7 +19,7 @@ use Rattle.journal.specs.Slots.{slotAt, moveOf}
 use Rattle.journal.specs.StoredChecks.{storedAt, isSoundCheck}
 use Rattle.board.specs.declared.Board.{Board}
 use Rattle.board.specs.Board.{stateOf, isBoard}
-use Rattle.board.specs.Play.{unsoundSlot}
+use Rattle.play.specs.Play.{unsoundSlot}
 use Rattle.record.specs.declared.Asked.{Asked}
 use Rattle.record.specs.declared.Written.{Written}
 use Rattle.record.specs.Items.{Parts, recordOf}

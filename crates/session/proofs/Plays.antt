@@ -14,7 +14,7 @@ use Rattle.journal.specs.declared.Move.the-variants.{Place, Erase, WriteMark, S
 use Rattle.journal.specs.Limits.{slotBytes}
 use Rattle.journal.specs.State.{State, perform}
 use Rattle.journal.specs.Slots.{slotFor, bytesOf}
-use Rattle.board.specs.Play.{moveTests}
+use Rattle.play.specs.Play.{moveTests}
 use Rattle.session.specs.Book.{performAll, slotsFrom}
 
 -- a move passes the tests of its call, 3 to 11

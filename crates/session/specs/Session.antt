@@ -8,8 +8,8 @@ use Rattle.puzzle.specs.declared.Refusal.{Refusal}
 use Rattle.journal.specs.declared.Move.{Move}
 use Rattle.board.specs.declared.Board.{Board}
 use Rattle.board.specs.Open.{Opened}
-use Rattle.board.specs.Play.{playOf, undoOf, redoOf}
-use Rattle.board.specs.Check.{checkOf}
+use Rattle.play.specs.Play.{playOf, undoOf, redoOf}
+use Rattle.play.specs.Check.{checkOf}
 use Rattle.session.specs.declared.Call.{Call}
 use Rattle.session.specs.declared.Call.the-variants.{Make, Undo, Redo, Check}
 
