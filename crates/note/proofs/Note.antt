@@ -1,16 +1,16 @@
 -- The laws of a note and its marks, for any note and any digits: writing and striking undo each other, change one mark only, change
 -- nothing where there is nothing to do, and keep a note a note; and a note is no more than its marks.
 -- Assumes nothing.
-use mathlib.Core.Path.{_≡_, refl, sym, _∙_}
+use mathlib.Core.Path.{_≡_, refl, sym, ap, _∙_}
 use mathlib.Core.Logic.{_≢_}
-use mathlib.Core.Bool.{true, false}
+use mathlib.Core.Bool.{true, false, not}
 use Prim.Native.Nat.{ℕ, zero, suc, _+_, _-_, _/_, _%_, _^_, _≤_, _<_}
 use native.Mathlib.Nat.{sub-add-cancel, div-one, zero-div, add-zero}
 use native.Mathlib.Omega.{arith}
 use lib.Dec.{eqb}
-use borrow.Author.Tests.{ltb-true, lt-ltb, eqb-true, eqb-false}
-use Rattle.sudoku.specs.Tests.{pick, both, bit, count}
-use Rattle.sudoku.proofs.Walks.{by-test, pick-true, pick-false, length-among, count-le, count-none, both-left, both-right, both-false-right}
+use borrow.Author.Tests.{ltb-true, lt-ltb, eq-eqb, eqb-true, eqb-false}
+use Rattle.sudoku.specs.Tests.{pick, both, either, bit, count}
+use Rattle.sudoku.proofs.Walks.{by-test, pick-true, pick-false, length-among, count-le, count-none, both-left, both-right, both-second, both-false-right, either-first, either-right}
 use Rattle.sudoku.specs.Grid.{inRange}
 use Rattle.sudoku.proofs.Grid.{range-from, range-to, in-range}
 use Rattle.note.specs.Note.{contains, withMark, without, isNote, powerOf, lenOf, marks, isEmpty}
@@ -134,6 +134,19 @@ pub without-other : (n d e : ℕ) → d ≢ e → contains (without n d) e ≡ c
 unfolding contains
 without-other n d e ne =
     without-cases n d (λ (m : ℕ). contains m e ≡ contains n e) refl (λ r h. rw (bit-removed-other n d e ne h))
+
+-- any mark after one is struck, or written
+pub contains-struck : (n d e : ℕ) → contains (without n d) e ≡ both (contains n e) (not (eqb e d))
+contains-struck n d e =
+    by-test (eqb e d)
+    (λ t. rw (eqb-true e d t) (contains-without n d ∙ sym (both-false-right (contains n d) (not (eqb d d)) (ap not (eq-eqb d d refl)))))
+    (λ t. without-other n d e (λ h. eqb-false e d t (sym h)) ∙ sym (both-second (contains n e) (not (eqb e d)) (ap not t)))
+
+pub contains-written : (n d e : ℕ) → inRange d ≡ true → contains (withMark n d) e ≡ either (contains n e) (eqb e d)
+contains-written n d e r =
+    by-test (eqb e d)
+    (λ t. rw (eqb-true e d t) (contains-with n d ∙ r ∙ sym (either-right (contains n d) (eqb d d) (eq-eqb d d refl))))
+    (λ t. with-other n d e (λ h. eqb-false e d t (sym h)) ∙ sym (either-first (contains n e) (eqb e d) t))
 
 -- ---- notes stay notes
 

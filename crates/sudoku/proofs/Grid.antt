@@ -8,7 +8,7 @@ use native.Mathlib.Nat.{div-add-mod', mod-lt}
 use native.Mathlib.Omega.{arith}
 use borrow.Author.Tests.{ltb-true, ltb-false, leb-true, leb-false, le-leb, lt-leb, eq-eqb, eqb-true, eqb-false}
 use lib.Dec.{leb, ltb, eqb}
-use lib.ListN.{length, getD, replicate, length-set, getD-replicate, List·getD-eq-default}
+use lib.ListN.{length, getD, set, replicate, length-set, getD-replicate, List·getD-eq-default}
 use lib.Seq.{getD-set-same, getD-set-other, set-getD, set-set, set-comm, ext-getD}
 use Rattle.sudoku.specs.Tests.{pick, both, either, bit, every, some, count, among}
 use Rattle.sudoku.specs.Grid.{inRange, onGrid, cellOf, isCell, rowOf, columnOf, boxIndex, isPeerOf, arePeers, peersOf, at, put}
@@ -72,12 +72,20 @@ at-ext l m p q h =
     ext-getD 0 l m (p ∙ sym q)
     (λ i u. subst (λ (k : ℕ). getD l k 0 ≡ getD m k 0) (omega arith) (h (i + 1) (omega arith) (omega arith)))
 
--- what stands at any cell after a put
-pub at-put-by : (l : List ℕ) (c c′ x : ℕ) → length l ≡ 81 → isCell c ≡ true → isCell c′ ≡ true → at (put l c x) c′ ≡ pick (eqb c c′) x (at l c′)
-at-put-by l c c′ x n p p′ =
+-- what stands at any place after a put, in a list of any length
+pub at-put-within : (l : List ℕ) (c c′ x : ℕ) → 1 ≤ c → c ≤ length l → 1 ≤ c′ → at (put l c x) c′ ≡ pick (eqb c c′) x (at l c′)
+unfolding at put
+at-put-within l c c′ x f t f′ =
     by-test (eqb c c′)
-    (λ t. ap (λ (k : ℕ). at (put l c x) k) (sym (eqb-true c c′ t)) ∙ at-put l c x n p ∙ sym (pick-true (eqb c c′) x (at l c′) t))
-    (λ t. at-put-other l c c′ x p p′ (eqb-false c c′ t) ∙ sym (pick-false (eqb c c′) x (at l c′) t))
+    (λ e. ap (λ (k : ℕ). getD (set l (c - 1) x) (k - 1) 0) (sym (eqb-true c c′ e))
+    ∙ getD-set-same l (c - 1) x 0 (omega arith)
+    ∙ sym (pick-true (eqb c c′) x (getD l (c′ - 1) 0) e))
+    (λ e. getD-set-other l (c - 1) (c′ - 1) x 0 (λ h. eqb-false c c′ e (omega (arith, h)))
+    ∙ sym (pick-false (eqb c c′) x (getD l (c′ - 1) 0) e))
+
+-- and of a list of 81 entries at any cell
+pub at-put-by : (l : List ℕ) (c c′ x : ℕ) → length l ≡ 81 → isCell c ≡ true → isCell c′ ≡ true → at (put l c x) c′ ≡ pick (eqb c c′) x (at l c′)
+at-put-by l c c′ x n p p′ = at-put-within l c c′ x (cell-from c p) (omega (arith, cell-to c p)) (cell-from c′ p′)
 
 -- ---- rows and columns 1 to 9, and the cell at a position
 
@@ -213,7 +221,7 @@ all-have-twenty : every hasTwenty 81 1 ≡ true
 unfolding hasTwenty every count arePeers isPeerOf rowOf columnOf boxIndex both either bit
 all-have-twenty = refl
 
-eqb-comm : (a b : ℕ) → eqb a b ≡ eqb b a
+pub eqb-comm : (a b : ℕ) → eqb a b ≡ eqb b a
 eqb-comm a b =
     same-test (eqb a b) (eqb b a) (λ t. eq-eqb b a (sym (eqb-true a b t))) (λ t. eq-eqb a b (sym (eqb-true b a t)))
 

@@ -114,6 +114,11 @@ unfolding either
 either-right true b p = refl
 either-right false b p = p
 
+pub either-first : (a b : Bool) → b ≡ false → either a b ≡ a
+unfolding either
+either-first true b p = refl
+either-first false b p = p
+
 pub either-second : (a b : Bool) → a ≡ false → either a b ≡ b
 unfolding either
 either-second a b p = ap (λ (t : Bool). either t b) p
