@@ -1,19 +1,18 @@
 -- The board value and its test, number 2.
 -- Assumes nothing.
-use Prim.Native.Nat.{ℕ}
+use Prim.Native.Nat.{ℕ, _-_}
 use mathlib.Core.Bool.{Bool, false, not}
 use mathlib.Core.List.{List}
-use lib.Dec.{leb}
-use lib.ListN.{replicate}
+use lib.Dec.{leb, eqb}
+use lib.ListN.{getD, replicate}
 use Rattle.sudoku.specs.Tests.{both, either, every}
 use Rattle.sudoku.specs.Grid.{inRange, at}
 use Rattle.note.specs.Note.{isNote}
 use Rattle.puzzle.specs.declared.Given.{Given}
-use Rattle.puzzle.specs.Puzzle.{holdsDigit}
 use Rattle.journal.specs.Limits.{maxMoves, maxChecks}
 use Rattle.journal.specs.declared.Counts.{Counts}
 use Rattle.journal.specs.Counts.{counts}
-use Rattle.journal.specs.State.{State, opening, isGiven}
+use Rattle.journal.specs.State.{State, opening}
 use Rattle.board.specs.declared.Board.{Board}
 
 -- what moves read and change of a board
@@ -41,18 +40,27 @@ boardOf s solution c checks =
 unfoldable pub moved : Board → State → Counts → Board
 moved b s c = boardOf s (b .solution) c (b .checks)
 
--- a cell of the board value: no digit above 9, no given with digit 0, no note bit other than 1 to 9, no solution digit outside 1 to 9
-unfoldable pub isCellValue : Board → ℕ → Bool
-isCellValue b cell =
-    both (leb (at (b .digits) cell) 9)
-    (both (either (not (isGiven (stateOf b) cell)) (holdsDigit (b .digits) cell))
-    (both (isNote (at (b .notes) cell)) (inRange (at (b .solution) cell))))
+-- of a cell of the board value: no digit above 9, no given with digit 0
+unfoldable pub digitValue : List ℕ → List Bool → ℕ → Bool
+digitValue digits given cell =
+    both (leb (at digits cell) 9) (either (not (getD given (cell - 1) false)) (not (eqb (at digits cell) 0)))
 
--- number 2 speaks of board values for which this does not hold
+-- no note bit other than 1 to 9
+unfoldable pub noteValue : List ℕ → ℕ → Bool
+noteValue notes cell = isNote (at notes cell)
+
+-- no solution digit outside 1 to 9
+unfoldable pub solutionValue : List ℕ → ℕ → Bool
+solutionValue solution cell = inRange (at solution cell)
+
+-- number 2 speaks of board values for which this does not hold: made above 1,024, standing above made, checks above 256, or a cell's values
 unfoldable pub isBoard : Board → Bool
 isBoard b =
     both (leb (b .made) maxMoves)
-    (both (leb (b .standing) (b .made)) (both (leb (b .checks) maxChecks) (every (isCellValue b) 81 1)))
+    (both (leb (b .standing) (b .made))
+    (both (leb (b .checks) maxChecks)
+    (both (every (digitValue (b .digits) (b .given)) 81 1)
+    (both (every (noteValue (b .notes)) 81 1) (every (solutionValue (b .solution)) 81 1)))))
 
 -- the fresh board of givens and their solution
 unfoldable pub fresh : List Given → List ℕ → Board

@@ -1,0 +1,106 @@
+// The board value's test, number 2. It runs in every call, so each loop reads its arrays once and has no early exit.
+use crate::Board;
+ghost use mathlib.Core.Path.{_≡_};
+ghost use mathlib.Core.Bool.{not};
+ghost use lib.Dec.{leb, eqb};
+ghost use Rattle.sudoku.specs.Tests.{both, either, every};
+ghost use Rattle.sudoku.specs.Grid.{inRange};
+ghost use Rattle.note.specs.Note.{isNote};
+ghost use Rattle.board.specs.Board.{isBoard, digitValue, noteValue, solutionValue};
+
+// Moves that a journal holds, and checks that the check memory holds.
+pub const MAX_MOVES: usize = 1024;
+
+pub const MAX_CHECKS: usize = 256;
+
+// What was found so far, and a cell's digit: none above 9, and no given without one.
+fn digit_step(ok: bool, digit: u8, given: bool) -> bool
+    ensures { λ r. ⌜ r ≡ both ok (both (leb digit 9) (either (not given) (not (eqb digit 0)))) ⌝ }
+{
+    if digit > 9 {
+        return false;
+    }
+    if given {
+        if digit == 0 {
+            return false;
+        }
+        return ok;
+    }
+    ok
+}
+
+fn digit_values<'a>(digits: &'a [u8; 81], given: &'a [bool; 81]) -> bool
+    ensures { λ r. ⌜ r ≡ every (digitValue (now (digits .entry)) (now (given .entry))) 81 1 ⌝ }
+{
+    let mut ok = true;
+    let mut i: usize = 0;
+    while i < 81 {
+        ok = digit_step(ok, digits[i], given[i]);
+        i += 1;
+    }
+    ok
+}
+
+fn note_step(ok: bool, note: u16) -> bool
+    ensures { λ r. ⌜ r ≡ both ok (isNote note) ⌝ }
+{
+    if note::is_note(note) {
+        return ok;
+    }
+    false
+}
+
+fn note_values(notes: &[u16; 81]) -> bool
+    ensures { λ r. ⌜ r ≡ every (noteValue (now (notes .entry))) 81 1 ⌝ }
+{
+    let mut ok = true;
+    let mut i: usize = 0;
+    while i < 81 {
+        ok = note_step(ok, notes[i]);
+        i += 1;
+    }
+    ok
+}
+
+fn solution_step(ok: bool, digit: u8) -> bool
+    ensures { λ r. ⌜ r ≡ both ok (inRange digit) ⌝ }
+{
+    if sudoku::in_range(digit) {
+        return ok;
+    }
+    false
+}
+
+fn solution_values(solution: &[u8; 81]) -> bool
+    ensures { λ r. ⌜ r ≡ every (solutionValue (now (solution .entry))) 81 1 ⌝ }
+{
+    let mut ok = true;
+    let mut i: usize = 0;
+    while i < 81 {
+        ok = solution_step(ok, solution[i]);
+        i += 1;
+    }
+    ok
+}
+
+// Whether number 2 does not speak of the board value.
+pub fn is_board(board: Board) -> bool
+    ensures { λ r. ⌜ r ≡ isBoard board ⌝ }
+{
+    if board.made > MAX_MOVES {
+        return false;
+    }
+    if board.standing > board.made {
+        return false;
+    }
+    if board.checks > MAX_CHECKS {
+        return false;
+    }
+    if !digit_values(&board.digits, &board.given) {
+        return false;
+    }
+    if !note_values(&board.notes) {
+        return false;
+    }
+    solution_values(&board.solution)
+}
