@@ -1,5 +1,7 @@
 // The journal (board/journal.rs of the original): the four moves, what each one displaces, slots of eight bytes, and the two counts.
 
+pub mod notes;
+
 // The four moves.
 pub enum Move {
     Place { row: u8, column: u8, digit: u8 },

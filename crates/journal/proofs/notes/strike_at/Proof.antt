@@ -1,0 +1,51 @@
+-- `journal::notes::strike_at` meets its contract: beyond the list there is nothing to change.
+-- Assumes nothing.
+use mathlib.Core.Path.{_≡_, sym, ap, _∙_}
+use native.Mathlib.Omega.{arith}
+use borrow.Author.Needs.{needs}
+use lib.ListN.{length, getD, set}
+use lib.Seq.{set-out}
+use Rattle.sudoku.specs.Grid.{at, put}
+use Rattle.journal.specs.State.{strikeAt}
+use Rattle.journal.proofs.notes.strike_at.Statement.{statement}
+use Rattle.journal.proofs.notes.strike_at.Tie as tie
+
+index-of-requires : tie.Need-index-of-requires
+index-of-requires c κs = search needs
+
+mul-without : tie.Need-mul-without
+mul-without c = search needs
+
+array-read-without : tie.Need-array-read-without
+array-read-without c = search needs
+
+without-requires : tie.Need-without-requires
+without-requires c κs = search needs
+
+mul-out : tie.Need-mul-out
+mul-out c = search needs
+
+array-write-out : tie.Need-array-write-out
+array-write-out c = search needs
+
+returns : tie.Need-returns
+unfolding strikeAt at put
+returns c = rw (c .without .ensures, c .before .before .index-of .ensures)
+
+returns-2 : tie.Need-returns-2
+unfolding strikeAt at put
+returns-2 c = let n : length (c .before .before .args .t1) ≡ 81 = search needs in
+    sym (set-out (c .before .before .args .t1) _ _ (omega (arith, c .before .index-of .ensures)))
+
+pub strike-at-spec : {M : Type 1} → statement M
+strike-at-spec =
+    tie.close
+    (tie.spec
+    index-of-requires
+    mul-without
+    array-read-without
+    without-requires
+    mul-out
+    array-write-out
+    returns
+    returns-2)
