@@ -14,9 +14,9 @@ use lib.Seq.{ext-getD}
 use Rattle.sudoku.specs.Tests.{pick, both, either, bit}
 use Rattle.sudoku.specs.Grid.{inRange, at, put}
 use Rattle.sudoku.proofs.Walks.{by-test, same-test, not-both-ways, pick-true, pick-false, both-true, both-left, both-right, both-first, both-second, both-false-left, both-false-right, either-left, either-right, either-first, either-second, either-false, either-false-left, either-false-right, either-cases, Entry}
-use Rattle.sudoku.proofs.Grid.{at-put-within, length-put}
+use Rattle.sudoku.proofs.Grid.{at-put-within, length-put, put-put, put-at}
 use Rattle.note.specs.Note.{contains, withMark, without, isNote}
-use Rattle.note.proofs.Note.{contains-struck, contains-written, isNote-with, isNote-without, same-marks}
+use Rattle.note.proofs.Note.{contains-struck, contains-written, isNote-with, isNote-without, same-marks, strike-write, write-strike}
 use Rattle.journal.specs.State.{writeAt, strikeAt, strikeAll, holders, lowest, strikeMasked, writeMasked, everyMasked}
 
 -- ---- the words of this page
@@ -475,3 +475,26 @@ masked-every f mask (cell ∷ cells) n h m =
     (sym (either-second (not (lowest mask)) (f cell) (ap not (both-left (lowest mask) (eqb cell n) e)))
     ∙ both-left (either (not (lowest mask)) (f cell)) (everyMasked f (mask / 2) cells) h))
     (λ r. masked-every f (mask / 2) cells n (both-right (either (not (lowest mask)) (f cell)) (everyMasked f (mask / 2) cells) h) r)
+
+-- ---- one cell written and struck, or struck and written
+
+module _ (notes : List ℕ) (cell d : ℕ) (from : 1 ≤ cell) (to : cell ≤ length notes) where
+  here-after : (x : ℕ) → at (put notes cell x) cell ≡ x
+  here-after x =
+      at-put-within notes cell cell x from to from ∙ pick-true (eqb cell cell) x (at notes cell) (eq-eqb cell cell refl)
+
+  pub strike-written : inRange d ≡ true → contains (at notes cell) d ≡ false → strikeAt (writeAt notes cell d) cell d ≡ notes
+  unfolding strikeAt writeAt
+  strike-written r h =
+      put-put notes cell (withMark (at notes cell) d) (without (at (put notes cell (withMark (at notes cell) d)) cell) d)
+      ∙ ap (λ (x : ℕ). put notes cell x)
+      (ap (λ (x : ℕ). without x d) (here-after (withMark (at notes cell) d)) ∙ strike-write (at notes cell) d r h)
+      ∙ put-at notes cell
+
+  pub write-struck : contains (at notes cell) d ≡ true → writeAt (strikeAt notes cell d) cell d ≡ notes
+  unfolding strikeAt writeAt
+  write-struck h =
+      put-put notes cell (without (at notes cell) d) (withMark (at (put notes cell (without (at notes cell) d)) cell) d)
+      ∙ ap (λ (x : ℕ). put notes cell x)
+      (ap (λ (x : ℕ). withMark x d) (here-after (without (at notes cell) d)) ∙ write-strike (at notes cell) d h)
+      ∙ put-at notes cell
