@@ -1,4 +1,4 @@
-pub mod Each
 pub mod ReadBack
 pub mod WriteBack
 pub mod Lengths
+pub mod Givens

@@ -21,7 +21,7 @@ use Rattle.record.specs.declared.Item.the-variants.{Given, Played, Undon
 use Rattle.record.specs.declared.Asked.{Asked}
 use Rattle.record.specs.Items.{Parts, encode, encodeAll, givenItem, checkItem, itemsOf, recordOf}
 use Rattle.record.specs.Scan.{Items, ended, cut, then, takeItem, byKind, body2, body3, body5, goOn, itemsIn, itemsOfBytes, reached, mayStand, scan, malformed, add, noParts, partsIn, partsOfBytes}
-use Rattle.record.proofs.Each.{Each, each-append, each-all, each-map}
+use Rattle.sudoku.proofs.Each.{Each, each-append, each-all, each-map}
 
 -- ---- what fits two bytes
 

@@ -2,3 +2,4 @@ pub mod Walks
 pub mod Grid
 pub mod PeerTable
 pub mod Counting
+pub mod Each
