@@ -7,18 +7,22 @@ use mathlib.Core.List.{List, [], _∷_}
 use native.Mathlib.Omega.{arith}
 use borrow.Author.Tests.{eqb-true, eqb-false, eq-eqb, ne-eqb, le-leb, lt-ltb, leb-true, leb-false, not-true, not-false}
 use lib.Dec.{eqb, leb, ltb}
-use lib.ListN.{length, getD, List·getD-eq-default}
+use lib.ListN.{length, getD, replicate, getD-replicate, List·getD-eq-default}
 use Rattle.sudoku.specs.Tests.{pick, both, either}
 use Rattle.sudoku.specs.Grid.{inRange, onGrid, cellOf, isCell, at, put, peersOf}
 use Rattle.sudoku.proofs.Walks.{by-test, not-both-ways, pick-true, pick-false, both-true, both-right, both-second, both-false-left, both-false-right, either-left, either-right, every-at, Entry}
 use Rattle.sudoku.proofs.Grid.{cell-from, cell-to, is-cell, cell-of-is-cell, range-from, range-to, in-range, at-put, at-put-by, put-put, put-at, length-put, peers-from, peers-to, peers-length}
+use Rattle.sudoku.proofs.Each.{Each}
 use Rattle.note.specs.Note.{contains, isNote}
 use Rattle.note.proofs.Note.{contains-digit, isNote-zero}
+use Rattle.puzzle.specs.declared.Given.{Given}
+use Rattle.puzzle.specs.Givens.{ascending, digitsOf}
+use Rattle.puzzle.proofs.Givens.{OnGrid, Matches, Rising, rising, marked, given-at, given-digit, free-digit, fresh-not-full, length-digits-of, length-given-cells}
 use Rattle.puzzle.specs.Puzzle.{holdsDigit, isFull, isConsistent, settled}
 use Rattle.journal.specs.declared.Move.{Move}
 use Rattle.journal.specs.declared.Move.the-variants.{Place, Erase, WriteMark, StrikeMark}
 use Rattle.journal.specs.declared.Slot.{Slot}
-use Rattle.journal.specs.State.{State, isGiven, digitAt, noteAt, withNotes, putDigit, writeAt, strikeAt, strikeAll, holders, strikeMasked, writeMasked, everyMasked, rowIn, columnIn, digitIn, kindOf, perform, before, struck, performAgain, takeBack, standsAsLeft, standsAsFound}
+use Rattle.journal.specs.State.{State, opening, isGiven, digitAt, noteAt, withNotes, putDigit, writeAt, strikeAt, strikeAll, holders, strikeMasked, writeMasked, everyMasked, rowIn, columnIn, digitIn, kindOf, perform, before, struck, performAgain, takeBack, standsAsLeft, standsAsFound}
 use Rattle.journal.specs.Slots.{slotFor, moveOf, soundPlace, soundErase, soundMark, isSound}
 use Rattle.journal.proofs.NoteCells.{isIn, isMasked, Within, AreNotes, in-at, masked-in, masked-holders, holders-small, strike-all-mark, strike-at-mark, write-at-mark, length-strike-all, length-strike-at, length-write-at, strike-all-notes, strike-at-notes, write-at-notes, strike-again, write-back, every-masked, strike-written, write-struck}
 
@@ -381,3 +385,36 @@ slot-sound s (StrikeMark row column digit) f a =
     (both-true (onGrid row column) (not (isGiven s (cellOf row column))) (a .grid)
     (ap not (empty-free s (cellOf row column) f (cell-of-is-cell row column (a .grid)) (a .empty))))
     (both-true (inRange digit) true (contains-digit (noteAt s (cellOf row column)) digit (a .there)) refl)
+
+-- ---- the opening
+
+-- a list of empty notes
+pub empty-note : (cell : ℕ) → isCell cell ≡ true → at (replicate 81 0) cell ≡ 0
+unfolding at
+empty-note cell q = getD-replicate {A = ℕ} 81 (cell - 1) 0 0 (omega (arith, cell-from cell q, cell-to cell q))
+
+-- givens on the grid that ascend and match a solution of digits 1 to 9, fewer than 81, open a fit state
+pub fit-opening : (solution : List ℕ) (gs : List Given) → Each OnGrid gs → Each (Matches solution) gs → ascending gs ≡ true
+    → ((cell : ℕ) → isCell cell ≡ true → inRange (at solution cell) ≡ true) → length gs < 81 → Fit (opening gs)
+unfolding opening isGiven digitAt noteAt
+fit-opening solution gs on matches up range h =
+    record {
+      given-81 = length-given-cells gs;
+      digits-81 = length-digits-of gs;
+      notes-81 = refl;
+      digits = λ cell q.
+          by-test (marked gs cell) (λ t. omega (arith, given-digit solution gs on rise matches cell q t, range-to (at solution cell) (range cell q)))
+          (λ t. omega (arith, free-digit gs on rise cell q t));
+      givens = λ cell q g z.
+          omega (arith, z, given-digit solution gs on rise matches cell q (sym (given-at gs cell on q) ∙ g), range-from (at solution cell) (range cell q));
+      notes = λ cell q. ap isNote (empty-note cell q) ∙ isNote-zero;
+      status = sym (both-false-left (isFull (digitsOf gs)) (isConsistent (digitsOf gs)) (fresh-not-full gs on rise h));
+    }
+  where
+    rise : Rising 0 gs
+    rise = rising solution gs on matches up
+
+-- which is not solved
+pub opening-unsolved : (gs : List Given) → (opening gs) .solved ≡ false
+unfolding opening
+opening-unsolved gs = refl

@@ -13,7 +13,7 @@ use lib.ListN.{length, getD}
 use lib.Seq.{ext-getD}
 use Rattle.sudoku.specs.Tests.{pick, both, either, bit}
 use Rattle.sudoku.specs.Grid.{inRange, at, put}
-use Rattle.sudoku.proofs.Walks.{by-test, same-test, not-both-ways, pick-true, pick-false, both-true, both-left, both-right, both-first, both-second, both-false-left, both-false-right, either-left, either-right, either-first, either-second, either-false, either-false-left, either-false-right, either-cases, Entry}
+use Rattle.sudoku.proofs.Walks.{by-test, bit-le, same-test, not-both-ways, pick-true, pick-false, both-true, both-left, both-right, both-first, both-second, both-false-left, both-false-right, either-left, either-right, either-first, either-second, either-false, either-false-left, either-false-right, either-cases, Entry}
 use Rattle.sudoku.proofs.Grid.{at-put-within, length-put, put-put, put-at}
 use Rattle.note.specs.Note.{contains, withMark, without, isNote}
 use Rattle.note.proofs.Note.{contains-struck, contains-written, isNote-with, isNote-without, same-marks, strike-write, write-strike}
@@ -150,17 +150,12 @@ holders-bit notes d (cell ∷ cells) (suc i) h =
     ∙ ap (λ (k : ℕ). k / 2 ^ i) (rest-bits (contains (at notes cell) d) (holders notes d cells)))
     ∙ holders-bit notes d cells i (le-of-suc-le-suc h)
 
-bit-most : (t : Bool) → bit t ≤ 1
-unfolding bit
-bit-most true = omega arith
-bit-most false = omega arith
-
 -- one bit for each cell
 pub holders-small : (notes : List ℕ) (d : ℕ) (cells : List ℕ) → holders notes d cells < 2 ^ length cells
 unfolding holders
 holders-small notes d [] = omega arith
 holders-small notes d (cell ∷ cells) =
-    omega (arith, pow-suc 2 (length cells), bit-most (contains (at notes cell) d), holders-small notes d cells)
+    omega (arith, pow-suc 2 (length cells), bit-le (contains (at notes cell) d), holders-small notes d cells)
 
 -- ---- striking and writing at one cell, mark by mark
 

@@ -364,7 +364,7 @@ not-every f (suc n) i = not-both (f i) (every f n (suc i)) ∙ ap (λ (t : Bool)
 
 -- ---- counting
 
-bit-le : (t : Bool) → bit t ≤ 1
+pub bit-le : (t : Bool) → bit t ≤ 1
 unfolding bit
 bit-le true = omega arith
 bit-le false = omega arith
