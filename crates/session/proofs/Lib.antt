@@ -1,1 +1,4 @@
 pub mod Plays
+pub mod Refusals
+pub mod Making
+pub mod Lines
