@@ -2,3 +2,4 @@ pub mod Plays
 pub mod Refusals
 pub mod Making
 pub mod Lines
+pub mod Opening
