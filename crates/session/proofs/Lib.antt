@@ -3,3 +3,4 @@ pub mod Refusals
 pub mod Making
 pub mod Lines
 pub mod Opening
+pub mod Units

@@ -5,8 +5,8 @@ use Prim.Native.Nat.{ℕ, zero, suc, _+_, _≤_, _<_}
 use mathlib.Core.Path.{_≡_, refl, sym, ap, subst}
 use mathlib.Core.Bool.{Bool, true, false}
 use native.Mathlib.Omega.{arith}
-use borrow.Author.Tests.{eq-eqb, ne-eqb}
-use lib.Dec.{eqb}
+use borrow.Author.Tests.{leb-true, leb-false, eq-eqb, ne-eqb}
+use lib.Dec.{leb, eqb}
 use Rattle.sudoku.specs.Tests.{both, bit, count}
 use Rattle.sudoku.proofs.Walks.{by-test, from-here, both-second, both-false-right, count-some, count-same}
 
@@ -29,13 +29,21 @@ count-apart f (suc n) i h =
     (λ t. omega (arith, ap bit t, count-apart f n (suc i) (λ a b l m u. h a b (omega arith) m (omega arith))))
 
 -- at most one is counted: no two numbers pass
-pub apart-count : (f : ℕ → Bool) (n i a b : ℕ) → count f n i ≤ 1 → i ≤ a → a < b → b < i + n → f a ≡ true → f b ≡ true → ⊥
+apart-count : (f : ℕ → Bool) (n i a b : ℕ) → count f n i ≤ 1 → i ≤ a → a < b → b < i + n → f a ≡ true → f b ≡ true → ⊥
 unfolding count bit
 apart-count f zero i a b h l m u p q = omega arith
 apart-count f (suc n) i a b h l m u p q =
     from-here i a l
     (λ e. omega (arith, ap bit (subst (λ (k : ℕ). f k ≡ true) (sym e) p), count-some f n (suc i) b (omega arith) (omega arith) q))
     (λ w. apart-count f n (suc i) a b (omega arith) w m (omega arith) p q)
+
+-- so two that pass are one
+pub count-alone : (f : ℕ → Bool) (n i a b : ℕ) → count f n i ≤ 1 → i ≤ a → a < i + n → i ≤ b → b < i + n → f a ≡ true → f b ≡ true → a ≡ b
+count-alone f n i a b h la ua lb ub p q =
+    by-test (leb a b)
+    (λ t. by-test (leb b a) (λ s. omega (arith, leb-true a b t, leb-true b a s))
+    (λ s. absurd (apart-count f n i a b h la (leb-false b a s) ub p q)))
+    (λ t. absurd (apart-count f n i b a h lb (leb-false a b t) ua q p))
 
 -- a test that changes its outcome at one of the numbers only, from no to yes, is counted once more
 pub count-one-more : (f g : ℕ → Bool) (n i k : ℕ) → i ≤ k → k < i + n → f k ≡ false → g k ≡ true → ((j : ℕ) → i ≤ j → j < i + n → (k ≡ j → ⊥) → f j ≡ g j)
