@@ -1,7 +1,7 @@
 -- Opening a board of document 01: refusals 1, 19, 22 to 27, the fresh board, and what the lent memory holds afterwards.
 -- Assumes nothing.
 use Prim.Native.Nat.{ℕ, _%_}
-use mathlib.Core.Bool.{Bool, not}
+use mathlib.Core.Bool.{Bool}
 use mathlib.Core.List.{List}
 use lib.Dec.{eqb}
 use lib.ListN.{length, replicate}

@@ -3,9 +3,9 @@
 -- Assumes nothing.
 use Prim.Native.Nat.{ℕ}
 use mathlib.Core.Bool.{Bool, false, not}
-use mathlib.Core.List.{List, [], _∷_}
-use lib.Dec.{leb, ltb, eqb}
-use Rattle.sudoku.specs.Tests.{Test, _⇒_, first, pick, both}
+use mathlib.Core.List.{[], _∷_}
+use lib.Dec.{ltb, eqb}
+use Rattle.sudoku.specs.Tests.{_⇒_, first, pick, both}
 use Rattle.sudoku.specs.Grid.{inRange, onGrid, cellOf}
 use Rattle.puzzle.specs.Refusals.{refusal, accepted}
 use Rattle.puzzle.specs.Puzzle.{conflicts, isFull, isConsistent, digitsLeft}

@@ -1,6 +1,8 @@
 // The board (board.rs, board/cell.rs, board/check.rs and board/error.rs of the original): one puzzle as it is being played.
 use puzzle::Refusal;
 
+pub mod cell;
+pub mod questions;
 pub mod value;
 
 // A board by value, with flat arrays of 81 and open fields. It goes into a call and comes back in its answer.
