@@ -8,12 +8,14 @@ use lib.Dec.{leb, ltb, eqb}
 use lib.ListN.{getD}
 use Rattle.sudoku.specs.Tests.{pick, both, either}
 use Rattle.sudoku.specs.Grid.{inRange, onGrid, cellOf}
+use Rattle.journal.specs.declared.DigitChange.{DigitChange}
+use Rattle.journal.specs.declared.DigitChange.the-variants.{Put, None}
 use Rattle.journal.specs.declared.Move.{Move}
 use Rattle.journal.specs.declared.Move.the-variants.{Place, Erase, WriteMark, StrikeMark}
 use Rattle.journal.specs.declared.Slot.{Slot}
 use Rattle.journal.specs.Limits.{slotBytes}
 use Rattle.journal.specs.Bytes.{part, low, second, third, three}
-use Rattle.journal.specs.State.{State, isGiven, kindOf, rowIn, columnIn, digitIn, before, struck}
+use Rattle.journal.specs.State.{State, givensOnly, isGiven, kindOf, rowIn, columnIn, digitIn, before, struck}
 
 -- the slot of a move with what it displaces, made in a state
 unfoldable pub slotFor : State → Move → Slot
@@ -79,3 +81,16 @@ isSound s slot =
     both (both (onGrid (slot .row) (slot .column)) (not (isGiven s (cellOf (slot .row) (slot .column)))))
     (either (both (eqb (slot .kind) 2) (soundPlace slot))
     (either (both (eqb (slot .kind) 3) (soundErase slot)) (both (either (eqb (slot .kind) 4) (eqb (slot .kind) 5)) (soundMark slot))))
+
+-- a position is on the grid and no given's
+unfoldable pub isFree : List Bool → ℕ → ℕ → Bool
+isFree given row column = both (onGrid row column) (not (isGiven (givensOnly given) (cellOf row column)))
+
+-- a slot is sound, as the givens alone tell
+unfoldable pub soundFor : List Bool → Slot → Bool
+soundFor given slot = isSound (givensOnly given) slot
+
+-- what a slot's move does to the digit of its cell: a place puts its digit there, an erase empties it, and a mark changes no digit
+unfoldable pub digitChange : Slot → DigitChange
+digitChange slot =
+    pick (eqb (slot .kind) 2) (Put (slot .before) (slot .digit)) (pick (eqb (slot .kind) 3) (Put (slot .before) 0) None)

@@ -25,6 +25,10 @@ pub record State : Type 0 where
 unfoldable pub opening : List Given → State
 opening gs = record { given = givenCells gs; digits = digitsOf gs; notes = replicate 81 0; solved = false }
 
+-- what is asked of the givens alone is asked of this state
+unfoldable pub givensOnly : List Bool → State
+givensOnly given = record { given = given; digits = []; notes = []; solved = false }
+
 -- of a cell: whether it is a given, its digit (0 for none), its kept note
 unfoldable pub isGiven : State → ℕ → Bool
 isGiven s cell = getD (s .given) (cell - 1) false

@@ -1,6 +1,20 @@
 // The journal (board/journal.rs of the original): the four moves, what each one displaces, slots of eight bytes, and the two counts.
 
 pub mod notes;
+pub mod slots;
+
+// Moves that a journal holds.
+pub const MAX_MOVES: usize = 1024;
+// Checks that the check memory holds.
+pub const MAX_CHECKS: usize = 256;
+// Bytes of a slot, and of a stored check.
+pub const SLOT_BYTES: usize = 8;
+
+pub const CHECK_BYTES: usize = 6;
+// Bytes of journal memory and of check memory.
+pub const JOURNAL_BYTES: usize = SLOT_BYTES * MAX_MOVES;
+
+pub const CHECK_MEMORY: usize = CHECK_BYTES * MAX_CHECKS;
 
 // The four moves.
 pub enum Move {
@@ -18,6 +32,12 @@ pub struct Slot {
     pub digit: u8,
     pub before: u8,
     pub struck: u32,
+}
+
+// What a move does to the digit of its cell: the digit that stood before and the one that stands after, 0 for an empty cell. A mark changes none.
+pub enum DigitChange {
+    Put { before: u8, after: u8 },
+    None,
 }
 
 // The journal's two counts.

@@ -2,27 +2,18 @@
 use note::contains;
 use note::with;
 use note::without;
+use puzzle::index_of;
 use sudoku::CELLS;
 use sudoku::PEERS_PER_CELL;
 use sudoku::peers;
 use sudoku::wide;
 ghost use mathlib.Core.Path.{_≡_};
 ghost use mathlib.Core.Bool.{not};
-ghost use Prim.Native.Nat.{_+_, _-_, _*_, _<_, _^_};
+ghost use Prim.Native.Nat.{_+_, _*_, _<_, _^_};
 ghost use Rattle.sudoku.specs.Tests.{pick, either, bit};
 ghost use Rattle.sudoku.specs.Grid.{at, peersOf};
 ghost use Rattle.note.specs.Note.{contains as containsOf, withMark, without as withoutMark};
 ghost use Rattle.journal.specs.State.{writeAt, strikeAt, strikeAll, holders as holdersOf, lowest, strikeMasked, writeMasked, everyMasked};
-
-// Where a cell stands in a list of 81, counted from 0. Cell 0, which no grid has, stands where cell 1 does.
-pub fn index_of(cell: usize) -> usize
-    ensures { λ r. ⌜ r ≡ cell - 1 ⌝ }
-{
-    if cell == 0 {
-        return 0;
-    }
-    cell - 1
-}
 
 // The kept note of a cell, and an empty note where there is no such cell.
 pub fn note_at(notes: &[u16; 81], cell: usize) -> u16

@@ -29,7 +29,7 @@ pub struct Given {
 }
 
 // The byte at an index, and 0 past the end.
-fn byte_at(bytes: &[u8], i: usize) -> u8
+pub fn byte_at(bytes: &[u8], i: usize) -> u8
     ensures { λ r. ⌜ r ≡ getD (now (bytes .entry)) i 0 ⌝ }
 {
     if i < bytes.len() {
@@ -39,7 +39,7 @@ fn byte_at(bytes: &[u8], i: usize) -> u8
 }
 
 // Where a cell's entry stands in a list of 81. No cell has the number 0; it stands where cell 1 does.
-fn index_of(cell: usize) -> usize
+pub fn index_of(cell: usize) -> usize
     ensures { λ r. ⌜ r ≡ cell - 1 ⌝ }
 {
     if cell == 0 {

@@ -1,0 +1,27 @@
+-- `journal::slots::is_given` meets its contract: beyond the list there is nothing to read.
+-- Assumes nothing.
+use mathlib.Core.Path.{_≡_, sym, ap}
+use mathlib.Core.Bool.{false}
+use native.Mathlib.Omega.{arith}
+use borrow.Author.Needs.{needs}
+use lib.ListN.{getD, List·getD-eq-default}
+use Rattle.journal.specs.State.{givensOnly, isGiven}
+use Rattle.journal.proofs.slots.is_given.Statement.{statement}
+use Rattle.journal.proofs.slots.is_given.Tie as tie
+
+index-of-requires : tie.Need-index-of-requires
+index-of-requires c κs = search needs
+
+shared-slice-read-result : tie.Need-shared-slice-read-result
+shared-slice-read-result c = search needs
+
+returns : tie.Need-returns
+unfolding isGiven givensOnly
+returns c = ap (λ k. getD (c .before .before .before .before .args .given .now) k false) (c .before .before .index-of .ensures)
+
+returns-2 : tie.Need-returns-2
+unfolding isGiven givensOnly
+returns-2 c = sym (List·getD-eq-default (c .before .before .before .args .given .now) false (omega (arith, c .before .index-of .ensures)))
+
+pub is-given-spec : {M : Type 1} → statement M
+is-given-spec = tie.close (tie.spec index-of-requires shared-slice-read-result returns returns-2)
