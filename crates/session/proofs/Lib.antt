@@ -4,3 +4,6 @@ pub mod Making
 pub mod Lines
 pub mod Opening
 pub mod Units
+pub mod Computing
+pub mod FullJournal
+pub mod Positions

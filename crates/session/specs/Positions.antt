@@ -4,7 +4,7 @@ use Prim.Native.Nat.{ℕ, zero, suc, _+_, _-_, _*_, _/_, _%_}
 use mathlib.Core.Path.{_≡_}
 use mathlib.Core.Bool.{Bool, true, false}
 use mathlib.Core.List.{List, [], _∷_, _++_, map}
-use lib.ListN.{length, getD, replicate}
+use lib.ListN.{replicate}
 use Rattle.sudoku.specs.Tests.{listed}
 use Rattle.sudoku.specs.Grid.{rowOf, columnOf, cellOf, peersOf, at}
 use Rattle.puzzle.specs.declared.Refusal.{Refusal}
@@ -12,18 +12,15 @@ use Rattle.puzzle.specs.Refusals.{refusal, accepted}
 use Rattle.puzzle.specs.Puzzle.{conflicts}
 use Rattle.puzzle.specs.Givens.{triples}
 use Rattle.journal.specs.Limits.{recordBytes}
-use Rattle.journal.specs.declared.Move.{Move}
-use Rattle.journal.specs.declared.Move.the-variants.{Place, Erase, WriteMark, StrikeMark}
+use Rattle.journal.specs.declared.Move.the-variants.{Place, WriteMark, StrikeMark}
 use Rattle.journal.specs.Bytes.{over}
 use Rattle.journal.specs.Slots.{slotAt, slotPart}
 use Rattle.journal.specs.StoredChecks.{verdictByte}
-use Rattle.board.specs.declared.Board.{Board}
-use Rattle.board.specs.Board.{fresh}
 use Rattle.board.specs.Open.{Opened, openOf, openedFresh, noMoves, noChecks}
 use Rattle.record.specs.Write.{Wrote, wrote, writeOf}
 use Rattle.record.specs.Reopen.{reopenOf}
 use Rattle.session.specs.declared.Call.{Call}
-use Rattle.session.specs.declared.Call.the-variants.{Make, Undo, Redo, Check}
+use Rattle.session.specs.declared.Call.the-variants.{Make, Undo, Check}
 use Rattle.session.specs.Session.{Session, Said, after, answers, started}
 
 -- solution G: cell (r, c) is (3(r−1) + (r−1)/3 rounded down + c−1) mod 9, plus 1
@@ -96,13 +93,17 @@ reopening bytes = reopenOf bytes solutionG noMoves noChecks .answer .refusal
 unfoldable pub recordH : ℕ → ℕ → List ℕ
 recordH a b = 2 ∷ 1 ∷ 1 ∷ 5 ∷ 6 ∷ 0 ∷ 0 ∷ 7 ∷ a ∷ b ∷ 1 ∷ 1 ∷ 5 ∷ []
 
--- the givens of L as items of a record
+-- the givens of the first n cells of G as items of a record, and a record of L
 unfoldable pub itemsFrom : ℕ → ℕ → List ℕ
 itemsFrom zero cell = []
 itemsFrom (suc n) cell = 1 ∷ rowOf cell ∷ columnOf cell ∷ digitG (rowOf cell) (columnOf cell) ∷ itemsFrom n (suc cell)
 
 unfoldable pub recordL : List ℕ → List ℕ
 recordL rest = itemsFrom 80 1 ++ rest
+
+-- i: a place of 7 at (9,9), and a check there of a digit with a standing count below 256
+unfoldable pub recordI : ℕ → ℕ → List ℕ
+recordI standing digit = recordL (2 ∷ 9 ∷ 9 ∷ 7 ∷ 6 ∷ 0 ∷ 0 ∷ 7 ∷ standing ∷ 0 ∷ 9 ∷ 9 ∷ digit ∷ [])
 
 -- f: the record that document 01 gives
 abbrev pub recordF : List ℕ
@@ -111,48 +112,88 @@ recordF = 2 ∷ 1 ∷ 1 ∷ 5 ∷ 4 ∷ 1 ∷ 2 ∷ 3 ∷ 6 ∷ 1 ∷ 0 ∷ 7 �
 unfoldable pub callsF : List Call
 callsF = place 1 1 5 ∷ writeMark 1 2 3 ∷ Undo ∷ Check 1 1 ∷ []
 
-pub record Positions : Type 0 where
-  -- E and L open with solution G
+-- E and L open with solution G
+pub record Openings : Type 0 where
   pub E-opens : openG givensE ≡ openedFresh (triples givensE) solutionG
   pub L-opens : openG givensL ≡ openedFresh (triples givensL) solutionG
-  -- a: solved; 4; 3
-  pub a : numbers givensL (place 9 9 8 ∷ Undo ∷ place 0 1 5 ∷ []) ≡ 0 ∷ 4 ∷ 3 ∷ []
-  pub a-solved : played givensL (place 9 9 8 ∷ []) .board .solved ≡ true
-  -- b: unsolved, conflicting; verdict 0
-  pub b : numbers givensL (place 9 9 7 ∷ Check 9 9 ∷ []) ≡ 0 ∷ 0 ∷ []
-  pub b-unsolved : played givensL (place 9 9 7 ∷ []) .board .solved ≡ false
-  pub b-conflicting : conflicts (played givensL (place 9 9 7 ∷ []) .board .digits) 81 ≡ true
-  pub b-verdict : verdictByte (played givensL (place 9 9 7 ∷ Check 9 9 ∷ []) .checks) 1 ≡ 0
-  pub b-answer : verdicts givensL (place 9 9 7 ∷ Check 9 9 ∷ []) ≡ false ∷ false ∷ []
-  -- c: accepted; 9; accepted with before 5
-  pub c : numbers givensE (place 1 1 5 ∷ place 1 1 5 ∷ place 1 1 6 ∷ []) ≡ 0 ∷ 9 ∷ 0 ∷ []
-  pub c-before : slotAt (played givensE (place 1 1 5 ∷ place 1 1 5 ∷ place 1 1 6 ∷ []) .journal) 2 .before ≡ 5
-  -- d: 8; 11
-  pub d : numbers givensE (place 5 5 10 ∷ strikeMark 5 5 10 ∷ []) ≡ 8 ∷ 11 ∷ []
-  -- e: mask bytes 255, 255, 15; twenty marks back
-  pub e-mask : slotPart (played givensE (callsE ++ place 5 5 5 ∷ []) .journal) 21 ≡ 2 ∷ 5 ∷ 5 ∷ 5 ∷ 0 ∷ 255 ∷ 255 ∷ 15 ∷ []
-  pub e-struck : notesAround (played givensE (callsE ++ place 5 5 5 ∷ [])) ≡ replicate 20 0
-  pub e-back : notesAround (played givensE (callsE ++ place 5 5 5 ∷ Undo ∷ [])) ≡ replicate 20 32
-  -- f: 2 1 1 5 4 1 2 3 6 1 0 7 1 0 1 1 5
-  pub f : numbers givensE callsF ≡ 0 ∷ 0 ∷ 0 ∷ 0 ∷ []
-  pub f-written : write (played givensE callsF) ≡ wrote accepted 17 (over (replicate recordBytes 0) 0 recordF)
-  -- g: fresh board; 17 at 1
-  pub g : reopenOf (6 ∷ 0 ∷ 0 ∷ []) solutionG noMoves noChecks ≡ openedFresh [] solutionG
-  pub g-nothing : reopening [] ≡ refusal 17 1 0
-  -- h: 32; accepted; 18
-  pub h : reopening (recordH 0 0) ≡ refusal 32 1 0
-  pub h-1024 : reopening (recordH 0 4) ≡ accepted
-  pub h-1025 : reopening (recordH 1 4) ≡ refusal 18 0 0
-  -- i: 33; 32; accepted, verdict 0
-  pub i : reopening (recordL (2 ∷ 9 ∷ 9 ∷ 7 ∷ 6 ∷ 0 ∷ 0 ∷ 7 ∷ 1 ∷ 0 ∷ 9 ∷ 9 ∷ 8 ∷ [])) ≡ refusal 33 1 0
-  pub i-0 : reopening (recordL (2 ∷ 9 ∷ 9 ∷ 7 ∷ 6 ∷ 0 ∷ 0 ∷ 7 ∷ 0 ∷ 0 ∷ 9 ∷ 9 ∷ 8 ∷ [])) ≡ refusal 32 1 0
-  pub i-7 : reopening (recordL (2 ∷ 9 ∷ 9 ∷ 7 ∷ 6 ∷ 0 ∷ 0 ∷ 7 ∷ 1 ∷ 0 ∷ 9 ∷ 9 ∷ 7 ∷ [])) ≡ accepted
-  pub i-verdict :
-      verdictByte (reopenOf (recordL (2 ∷ 9 ∷ 9 ∷ 7 ∷ 6 ∷ 0 ∷ 0 ∷ 7 ∷ 1 ∷ 0 ∷ 9 ∷ 9 ∷ 7 ∷ [])) solutionG noMoves noChecks .checks) 1 ≡ 0
-  -- j: 30; 28 at 2
-  pub j : reopening (recordL (2 ∷ 9 ∷ 9 ∷ 8 ∷ 6 ∷ 1 ∷ 0 ∷ [])) ≡ refusal 30 0 0
-  pub j-28 : reopening (recordL (2 ∷ 9 ∷ 9 ∷ 8 ∷ 2 ∷ 9 ∷ 9 ∷ 7 ∷ 6 ∷ 0 ∷ 0 ∷ [])) ≡ refusal 28 2 0
-  -- k: 1,024 moves accepted; 15; undo and strike accepted
-  pub k : numbers givensE (inTurn 512 ++ writeMark 1 1 1 ∷ Undo ∷ strikeMark 1 1 1 ∷ []) ≡ replicate 1024 0 ++ 15 ∷ 0 ∷ 0 ∷ []
-  -- l: opens (L above); 22
-  pub l : openOf (givensFrom 81 1) (replicate 81 0) noMoves noChecks .answer .refusal ≡ refusal 22 0 0
+
+-- a | L: place (9,9) 8; undo; place (0,1) 5 | solved; 4; 3
+pub record RowA : Type 0 where
+  pub answered : numbers givensL (place 9 9 8 ∷ Undo ∷ place 0 1 5 ∷ []) ≡ 0 ∷ 4 ∷ 3 ∷ []
+  pub solved : played givensL (place 9 9 8 ∷ []) .board .solved ≡ true
+
+-- b | L: place (9,9) 7; check | unsolved, conflicting; verdict 0
+pub record RowB : Type 0 where
+  pub answered : numbers givensL (place 9 9 7 ∷ Check 9 9 ∷ []) ≡ 0 ∷ 0 ∷ []
+  pub unsolved : played givensL (place 9 9 7 ∷ []) .board .solved ≡ false
+  pub conflicting : conflicts (played givensL (place 9 9 7 ∷ []) .board .digits) (cellOf 9 9) ≡ true
+  pub verdict : verdicts givensL (place 9 9 7 ∷ Check 9 9 ∷ []) ≡ false ∷ false ∷ []
+  pub stored : verdictByte (played givensL (place 9 9 7 ∷ Check 9 9 ∷ []) .checks) 1 ≡ 0
+
+-- c | E: place (1,1) 5 twice, then 6 | accepted; 9; accepted with before 5
+pub record RowC : Type 0 where
+  pub answered : numbers givensE (place 1 1 5 ∷ place 1 1 5 ∷ place 1 1 6 ∷ []) ≡ 0 ∷ 9 ∷ 0 ∷ []
+  pub before : slotAt (played givensE (place 1 1 5 ∷ place 1 1 5 ∷ place 1 1 6 ∷ []) .journal) 2 .before ≡ 5
+
+-- d | E: place (5,5) 10; strike mark 10 there | 8; 11
+pub record RowD : Type 0 where
+  pub answered : numbers givensE (place 5 5 10 ∷ strikeMark 5 5 10 ∷ []) ≡ 8 ∷ 11 ∷ []
+
+-- e | E: mark 5 in all peers of (5,5), place 5 there, undo | mask bytes 255, 255, 15; twenty marks back
+pub record RowE : Type 0 where
+  pub answered : numbers givensE (callsE ++ place 5 5 5 ∷ Undo ∷ []) ≡ replicate 22 0
+  pub mask : slotPart (played givensE (callsE ++ place 5 5 5 ∷ []) .journal) 21 ≡ 2 ∷ 5 ∷ 5 ∷ 5 ∷ 0 ∷ 255 ∷ 255 ∷ 15 ∷ []
+  pub struck : notesAround (played givensE (callsE ++ place 5 5 5 ∷ [])) ≡ replicate 20 0
+  pub back : notesAround (played givensE (callsE ++ place 5 5 5 ∷ Undo ∷ [])) ≡ replicate 20 32
+
+-- f | E: place (1,1) 5, write mark (1,2) 3, undo, check (1,1), write | 2 1 1 5 4 1 2 3 6 1 0 7 1 0 1 1 5
+pub record RowF : Type 0 where
+  pub answered : numbers givensE callsF ≡ 0 ∷ 0 ∷ 0 ∷ 0 ∷ []
+  pub written : write (played givensE callsF) ≡ wrote accepted 17 (over (replicate recordBytes 0) 0 recordF)
+
+-- g | E: reopen 6 0 0; reopen no bytes | fresh board; 17 at 1
+pub record RowG : Type 0 where
+  pub fresh : reopenOf (6 ∷ 0 ∷ 0 ∷ []) solutionG noMoves noChecks ≡ openedFresh (triples givensE) solutionG
+  pub nothing : reopening [] ≡ refusal 17 1 0
+
+-- h | E: reopen 2 1 1 5 6 0 0 and check (1,1) 5 with standing 0; 1,024; 1,025 | 32; accepted; 18
+pub record RowH : Type 0 where
+  pub standing-0 : reopening (recordH 0 0) ≡ refusal 32 1 0
+  pub standing-1024 : reopening (recordH 0 4) ≡ accepted
+  pub standing-1025 : reopening (recordH 1 4) ≡ refusal 18 0 0
+
+-- i | L: place 7 recorded, check (9,9) 8 with standing 1; with 0; digit 7 with 1 | 33; 32; accepted, verdict 0
+pub record RowI : Type 0 where
+  pub right-1 : reopening (recordI 1 8) ≡ refusal 33 1 0
+  pub right-0 : reopening (recordI 0 8) ≡ refusal 32 1 0
+  pub wrong-1 : reopening (recordI 1 7) ≡ accepted
+  pub stored : verdictByte (reopenOf (recordI 1 7) solutionG noMoves noChecks .checks) 1 ≡ 0
+
+-- j | L: recorded place 8, undone 1; recorded place 8, then 7 | 30; 28 at 2
+pub record RowJ : Type 0 where
+  pub undone-1 : reopening (recordL (2 ∷ 9 ∷ 9 ∷ 8 ∷ 6 ∷ 1 ∷ 0 ∷ [])) ≡ refusal 30 0 0
+  pub then-7 : reopening (recordL (2 ∷ 9 ∷ 9 ∷ 8 ∷ 2 ∷ 9 ∷ 9 ∷ 7 ∷ 6 ∷ 0 ∷ 0 ∷ [])) ≡ refusal 28 2 0
+
+-- k | E: write and strike mark 1 at (1,1) in turn, 1,024 moves, then write it again; undo, strike it | 15; accepted
+pub record RowK : Type 0 where
+  pub answered : numbers givensE (inTurn 512 ++ writeMark 1 1 1 ∷ Undo ∷ strikeMark 1 1 1 ∷ []) ≡ replicate 1024 0 ++ 15 ∷ 0 ∷ 0 ∷ []
+
+-- l | 80 givens of G; all 81 with a zero solution | opens; 22
+pub record RowL : Type 0 where
+  pub eighty : openG (givensFrom 80 1) ≡ openedFresh (triples (givensFrom 80 1)) solutionG
+  pub all : openOf (givensFrom 81 1) (replicate 81 0) noMoves noChecks .answer .refusal ≡ refusal 22 0 0
+
+pub record Positions : Type 0 where
+  pub openings : Openings
+  pub a : RowA
+  pub b : RowB
+  pub c : RowC
+  pub d : RowD
+  pub e : RowE
+  pub f : RowF
+  pub g : RowG
+  pub h : RowH
+  pub i : RowI
+  pub j : RowJ
+  pub k : RowK
+  pub l : RowL
