@@ -2,3 +2,4 @@ pub mod ReadBack
 pub mod WriteBack
 pub mod Lengths
 pub mod Givens
+pub mod Readable

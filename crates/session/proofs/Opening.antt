@@ -8,26 +8,23 @@ use mathlib.Core.List.{List}
 use native.Mathlib.Omega.{arith}
 use borrow.Author.Tests.{eq-eqb}
 use lib.Dec.{eqb}
-use lib.ListN.{length, getD, length-replicate, getD-replicate}
+use lib.ListN.{length}
 use Rattle.sudoku.specs.Tests.{pick, both}
 use Rattle.sudoku.specs.Grid.{inRange, isCell, at}
-use Rattle.sudoku.proofs.Walks.{by-test, both-true, both-false-left, pick-true}
-use Rattle.sudoku.proofs.Grid.{cell-from, cell-to, range-from, range-to}
+use Rattle.sudoku.proofs.Walks.{both-true, pick-true}
 use Rattle.sudoku.proofs.Each.{Each, each-at, each-of}
-use Rattle.note.proofs.Note.{isNote-zero}
-use Rattle.note.specs.Note.{isNote}
 use Rattle.puzzle.specs.declared.Given.{Given}
 use Rattle.puzzle.specs.Refusals.{accepted, isAccepted}
 use Rattle.puzzle.specs.Givens.{given, triples, digitsOf, givenCells, ascending}
-use Rattle.puzzle.specs.Puzzle.{isFull, isConsistent}
+use Rattle.puzzle.specs.Puzzle.{isFull}
 use Rattle.puzzle.specs.Vouch.{wellPosed}
 use Rattle.puzzle.proofs.Accepted.{accepts}
 use Rattle.puzzle.proofs.Order.{ascends-at, ascends-of}
-use Rattle.puzzle.proofs.Givens.{OnGrid, Matches, Rising, marked, length-given-cells, length-digits-of, given-at, given-digit, free-digit, fresh-not-full}
+use Rattle.puzzle.proofs.Givens.{OnGrid, Matches, Rising, marked, given-at, given-digit, free-digit, fresh-not-full}
 use Rattle.puzzle.proofs.Posed.{Vouched, posed-ascends, posed-vouched, posed, vouched-rising}
 use Rattle.journal.specs.Limits.{journalBytes, checkMemory}
 use Rattle.journal.specs.State.{State, opening, isGiven, digitAt, noteAt}
-use Rattle.journal.proofs.Moves.{Fit}
+use Rattle.journal.proofs.Moves.{Fit, fit-opening, empty-note}
 use Rattle.board.specs.Open.{lentLengths, openOf, openedFresh, turnedAway, wrongLength}
 use Rattle.session.specs.Opens.{Opens, nth}
 
@@ -96,27 +93,14 @@ module _ (gs : List Given) (solution : List ℕ) (o : Opens gs solution) where
   opening-free cell q t = free-digit gs opens-grid opens-rising cell q (sym (opening-given cell q) ∙ t)
 
   pub opening-note : (cell : ℕ) → isCell cell ≡ true → noteAt (opening gs) cell ≡ 0
-  unfolding opening noteAt at
-  opening-note cell q = getD-replicate 81 (cell - 1) 0 0 (omega (arith, cell-from cell q, cell-to cell q))
+  unfolding opening noteAt
+  opening-note cell q = empty-note cell q
 
   pub opening-not-full : isFull (digitsOf gs) ≡ false
   opening-not-full = fresh-not-full gs opens-grid opens-rising (o .left)
 
   pub opening-fit : Fit (opening gs)
-  unfolding opening
-  opening-fit =
-      record {
-        given-81 = length-given-cells gs;
-        digits-81 = length-digits-of gs;
-        notes-81 = refl;
-        digits =
-            λ cell q.
-            by-test (isGiven (opening gs) cell) (λ t. omega (arith, opening-digit cell q t, range-to _ (o .digits cell q)))
-            (λ t. omega (arith, opening-free cell q t));
-        givens = λ cell q t e. omega (arith, opening-digit cell q t, range-from _ (o .digits cell q));
-        notes = λ cell q. ap isNote (opening-note cell q) ∙ isNote-zero;
-        status = sym (both-false-left (isFull (digitsOf gs)) (isConsistent (digitsOf gs)) opening-not-full);
-      }
+  opening-fit = fit-opening solution gs opens-grid opens-match (opens-ascending gs solution o) (o .digits) (o .left)
 
 -- ---- opening returns the fresh board
 
