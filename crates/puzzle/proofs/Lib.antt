@@ -4,3 +4,6 @@ pub mod Givens
 pub mod Accepted
 pub mod Order
 pub mod Posed
+pub mod Refusals
+pub mod GivenBytes
+pub mod Rows

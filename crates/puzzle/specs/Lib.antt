@@ -1,4 +1,5 @@
 pub mod Refusals
 pub mod Givens
+pub mod Rows
 pub mod Puzzle
 pub mod Vouch

@@ -12,6 +12,9 @@ ghost use Rattle.sudoku.specs.Tests.{count};
 ghost use Rattle.sudoku.specs.Grid.{at};
 ghost use Rattle.puzzle.specs.Puzzle.{isHeld, holdsDigit, conflicts as conflictsAt, isFull, isConsistent, settled as settledBy, digitsLeft};
 
+pub mod given_bytes;
+pub mod proof;
+
 // The answer of a call: its number in document 01, 0 where the call is accepted; place and inner are 0 where document 01 says nothing of them.
 #[repr(C)]
 pub struct Refusal {
@@ -26,6 +29,12 @@ pub struct Given {
     pub row: u8,
     pub column: u8,
     pub digit: u8,
+}
+
+// How givens stand in some bytes: three bytes each, one after the other, as opening gets them, or as the items of a record, each after its kind byte.
+pub enum Layout {
+    Triples,
+    Items,
 }
 
 // The byte at an index, and 0 past the end.

@@ -3,3 +3,4 @@ pub mod Grid
 pub mod PeerTable
 pub mod Counting
 pub mod Each
+pub mod Listed

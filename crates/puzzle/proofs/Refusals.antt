@@ -1,0 +1,67 @@
+-- The laws of specs/Refusals: the first of two that refuses, and what is left of a walk in which the first refused decides.
+-- A loop counts i up to e, which it does not reach, as in the laws of walks.
+-- Assumes nothing.
+use Prim.Native.Nat.{ℕ, zero, suc, _+_, _-_, _≤_, _<_}
+use mathlib.Core.Path.{_≡_, refl, sym, ap, _∙_}
+use mathlib.Core.Bool.{Bool, true, false}
+use native.Mathlib.Nat.{sub-eq-zero-of-le}
+use native.Mathlib.Numerals.{add-one}
+use native.Mathlib.Omega.{arith}
+use borrow.Author.Tests.{eq-eqb, ne-eqb}
+use lib.Dec.{eqb}
+use Rattle.sudoku.proofs.Walks.{pick-true, pick-false, left-one}
+use Rattle.puzzle.specs.declared.Refusal.{Refusal}
+use Rattle.puzzle.specs.Refusals.{accepted, isAccepted, refusedIf, orElse, firstRefused}
+
+-- refused where the test holds, else accepted
+pub refused-if : (t : Bool) (r : Refusal) → t ≡ true → refusedIf t r ≡ r
+unfolding refusedIf
+refused-if t r p = pick-true t r accepted p
+
+pub accepted-if : (t : Bool) (r : Refusal) → t ≡ false → refusedIf t r ≡ accepted
+unfolding refusedIf
+accepted-if t r p = pick-false t r accepted p
+
+module _ (a b : Refusal) where
+  -- the first refuses
+  pub or-else-first : (a .number ≡ 0 → ⊥) → orElse a b ≡ a
+  unfolding orElse isAccepted
+  or-else-first h = pick-false (eqb (a .number) 0) b a (ne-eqb (a .number) 0 h)
+
+  -- the first accepts
+  pub or-else-second : a .number ≡ 0 → orElse a b ≡ b
+  unfolding orElse isAccepted
+  or-else-second h = pick-true (eqb (a .number) 0) b a (eq-eqb (a .number) 0 h)
+
+-- the first is known
+pub or-else-by : (a b r : Refusal) → a ≡ r → (r .number ≡ 0 → ⊥) → orElse a b ≡ r
+or-else-by a b r e h = ap (λ (x : Refusal). orElse x b) e ∙ or-else-first r b h
+
+pub or-else-past : (a b : Refusal) → a ≡ accepted → orElse a b ≡ b
+or-else-past a b e = or-else-second a b (ap (λ (x : Refusal). x .number) e)
+
+module _ (f : ℕ → Refusal) (e i : ℕ) where
+  pub walk-step : i < e → firstRefused f (e - i) i ≡ orElse (f i) (firstRefused f (e - (i + 1)) (i + 1))
+  unfolding firstRefused
+  walk-step h =
+      ap (λ (n : ℕ). firstRefused f n i) (left-one e i h)
+      ∙ ap (λ (k : ℕ). orElse (f i) (firstRefused f (e - (i + 1)) k)) (sym (add-one i))
+
+  -- the loop's `if r.number != 0 { return r; }`, taken and not
+  pub walk-refused : (r : Refusal) → i < e → r ≡ f i → (r .number ≡ 0 → ⊥) → firstRefused f (e - i) i ≡ r
+  walk-refused r h q n = walk-step h ∙ or-else-by (f i) (firstRefused f (e - (i + 1)) (i + 1)) r (sym q) n
+
+  pub walk-more : (r : Refusal) → i < e → r ≡ f i → r .number ≡ 0 → firstRefused f (e - i) i ≡ firstRefused f (e - (i + 1)) (i + 1)
+  walk-more r h q n =
+      walk-step h ∙ or-else-second (f i) (firstRefused f (e - (i + 1)) (i + 1)) (ap (λ (x : Refusal). x .number) (sym q) ∙ n)
+
+  pub walk-all : e ≤ i → firstRefused f (e - i) i ≡ accepted
+  unfolding firstRefused
+  walk-all h = ap (λ (n : ℕ). firstRefused f n i) (sub-eq-zero-of-le h)
+
+-- two walks that say the same at each of the numbers
+pub walk-same : (f g : ℕ → Refusal) (n i : ℕ) → ((k : ℕ) → i ≤ k → k < i + n → f k ≡ g k) → firstRefused f n i ≡ firstRefused g n i
+unfolding firstRefused
+walk-same f g zero i h = refl
+walk-same f g (suc n) i h =
+    λ j. orElse (h i (omega arith) (omega arith) j) (walk-same f g n (suc i) (λ k l u. h k (omega arith) (omega arith)) j)
