@@ -1,5 +1,5 @@
-// What a cell's parts say (board/cell.rs of the original). Any number is a cell here: where the grid has none, it is no given.
-use journal::notes::index_of;
+// What a cell's parts say together (board/cell.rs of the original). Any number is a cell here: where the grid has none, nothing stands.
+use journal::slots::is_given;
 use puzzle::holds_digit;
 ghost use mathlib.Core.Path.{_≡_};
 ghost use mathlib.Core.Bool.{false, not};
@@ -7,18 +7,6 @@ ghost use Prim.Native.Nat.{_-_};
 ghost use lib.ListN.{getD};
 ghost use Rattle.sudoku.specs.Tests.{both};
 ghost use Rattle.puzzle.specs.Puzzle.{holdsDigit};
-
-// Whether the setter put the cell's digit there.
-pub fn is_given(given: &[bool; 81], cell: usize) -> bool
-    ensures { λ r. ⌜ r ≡ getD (now (given .entry)) (cell - 1) false ⌝ }
-{
-    let all: &[bool] = given;
-    let at = index_of(cell);
-    if at < all.len() {
-        return all[at];
-    }
-    false
-}
 
 // Whether the cell holds a digit that the player put there: a digit in a cell that is no given.
 pub fn holds_players_digit<'a>(digits: &'a [u8; 81], given: &'a [bool; 81], cell: usize) -> bool

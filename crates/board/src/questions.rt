@@ -7,6 +7,7 @@ use crate::YesNo;
 use crate::cell;
 use crate::value::is_board;
 use journal::notes::note_at;
+use journal::slots::is_given;
 use puzzle::Refusal;
 use puzzle::digit_at;
 use puzzle::holds_digit;
@@ -96,7 +97,7 @@ fn cell_answer(board: Board, cell: usize) -> CellAnswer
     ensures { λ r. ⌜ r ≡ cellAnswer (stateOf board) cell ⌝ }
 {
     let digit = digit_at(&board.digits, cell);
-    let given = cell::is_given(&board.given, cell);
+    let given = is_given(&board.given, cell);
     let conflicting = puzzle::conflicts(&board.digits, cell);
     let note = note_at(&board.notes, cell);
     CellAnswer {

@@ -1,5 +1,7 @@
 // The board value's test, number 2. It runs in every call, so each loop reads its arrays once and has no early exit.
 use crate::Board;
+use journal::MAX_CHECKS;
+use journal::MAX_MOVES;
 ghost use mathlib.Core.Path.{_≡_};
 ghost use mathlib.Core.Bool.{not};
 ghost use lib.Dec.{leb, eqb};
@@ -7,11 +9,6 @@ ghost use Rattle.sudoku.specs.Tests.{both, either, every};
 ghost use Rattle.sudoku.specs.Grid.{inRange};
 ghost use Rattle.note.specs.Note.{isNote};
 ghost use Rattle.board.specs.Board.{isBoard, digitValue, noteValue, solutionValue};
-
-// Moves that a journal holds, and checks that the check memory holds.
-pub const MAX_MOVES: usize = 1024;
-
-pub const MAX_CHECKS: usize = 256;
 
 // What was found so far, and a cell's digit: none above 9, and no given without one.
 fn digit_step(ok: bool, digit: u8, given: bool) -> bool

@@ -1,6 +1,6 @@
 -- `board::questions::cell_answer` meets its contract: each part is what its own function says.
 -- Assumes nothing.
-use Rattle.journal.specs.State.{isGiven, digitAt, noteAt}
+use Rattle.journal.specs.State.{isGiven, givensOnly, digitAt, noteAt}
 use Rattle.board.specs.Board.{stateOf}
 use borrow.Author.Needs.{needs}
 use Rattle.board.specs.Questions.{cellAnswer}
@@ -20,7 +20,7 @@ note-at-requires : tie.Need-note-at-requires
 note-at-requires c κs = search needs
 
 returns : tie.Need-returns
-unfolding cellAnswer stateOf isGiven digitAt noteAt
+unfolding cellAnswer stateOf givensOnly isGiven digitAt noteAt
 returns c = rw (c .before .before .before .before .before .before .before .before .before .digit-at .ensures, c .before .before .before .before .before .before .is-given .ensures, c .before .before .before .conflicts .ensures, c .note-at .ensures)
 
 pub cell-answer-spec : {M : Type 1} → statement M
