@@ -9,7 +9,8 @@ use Rattle.sudoku.specs.Tests.{both, bit}
 use Rattle.sudoku.specs.Grid.{inRange, onGrid, cellOf, at}
 use Rattle.journal.specs.Limits.{maxMoves, checkBytes}
 use Rattle.journal.specs.Bytes.{low, second, two}
-use Rattle.journal.specs.State.{State, isGiven}
+use Rattle.journal.specs.State.{State, givensOnly, isGiven}
+use Rattle.journal.specs.Slots.{isFree}
 
 -- a check: standing, row, column, digit, and the verdict, whether the digit is the solution's
 pub record Stored : Type 0 where
@@ -18,6 +19,10 @@ pub record Stored : Type 0 where
   pub column : ℕ
   pub digit : ℕ
   pub right : Bool
+
+abbrev pub storedCheck : ℕ → ℕ → ℕ → ℕ → Bool → Stored
+storedCheck standing row column digit right =
+    record { standing = standing; row = row; column = column; digit = digit; right = right }
 
 -- the verdict on a digit at a cell
 unfoldable pub isRight : List ℕ → ℕ → ℕ → Bool
@@ -68,3 +73,12 @@ isSoundCheck s checks n =
     let c = storedAt checks n in
     both (both (onGrid (c .row) (c .column)) (not (isGiven s (cellOf (c .row) (c .column)))))
     (both (both (leb 1 (c .standing)) (leb (c .standing) maxMoves)) (both (inRange (c .digit)) (leb (verdictByte checks n) 1)))
+
+-- the same of its fields and its verdict byte, as the givens alone tell
+unfoldable pub soundStored : List Bool → ℕ → ℕ → ℕ → ℕ → ℕ → Bool
+soundStored given standing row column digit verdict =
+    both (isFree given row column)
+    (both (both (leb 1 standing) (leb standing maxMoves)) (both (inRange digit) (leb verdict 1)))
+
+unfoldable pub soundCheckFor : List Bool → List ℕ → ℕ → Bool
+soundCheckFor given checks n = isSoundCheck (givensOnly given) checks n

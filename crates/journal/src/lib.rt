@@ -1,7 +1,9 @@
 // The journal (board/journal.rs of the original): the four moves, what each one displaces, slots of eight bytes, and the two counts.
 
+pub mod checks;
 pub mod notes;
 pub mod slots;
+pub mod steps;
 
 // Moves that a journal holds.
 pub const MAX_MOVES: usize = 1024;

@@ -1,0 +1,26 @@
+-- `journal::checks::two` meets its contract: two bytes make a number below 65,536.
+-- Assumes nothing.
+use mathlib.Core.Path.{_≡_, sym, ap, _∙_}
+use borrow.Author.Needs.{needs}
+use Rattle.journal.specs.Bytes.{two}
+use Rattle.journal.proofs.checks.two.Statement.{statement}
+use Rattle.journal.proofs.checks.two.Tie as tie
+
+wide-requires : tie.Need-wide-requires
+wide-requires c κs = search needs
+
+wide-requires-2 : tie.Need-wide-requires-2
+wide-requires-2 c κs = search needs
+
+mul-result : tie.Need-mul-result
+mul-result c = search needs
+
+add-result : tie.Need-add-result
+add-result c = search needs
+
+returns : tie.Need-returns
+unfolding two
+returns c = rw (c .before .wide .ensures .0, c .wide2 .ensures .0)
+
+pub two-spec : {M : Type 1} → statement M
+two-spec = tie.close (tie.spec wide-requires wide-requires-2 mul-result add-result returns)

@@ -1,0 +1,56 @@
+// The three journal steps over the two counts, made and standing: recording, taking back and retaking a move.
+use crate::Counts;
+use crate::MAX_MOVES;
+ghost use mathlib.Core.Path.{_≡_};
+ghost use Prim.Native.Nat.{min};
+ghost use Rattle.journal.specs.Counts.{recorded as recordedOf, takenBack, retaken as retakenOf};
+
+// The smaller of two numbers.
+fn smaller(a: usize, b: usize) -> usize
+    ensures { λ r. ⌜ r ≡ min a b ⌝ }
+{
+    if a < b {
+        return a;
+    }
+    b
+}
+
+// Recording drops the moves after standing and adds one; where the journal is full it changes nothing.
+pub fn recorded(c: Counts) -> Counts
+    ensures { λ r. ⌜ r ≡ recordedOf c ⌝ }
+{
+    if c.standing >= MAX_MOVES {
+        return c;
+    }
+    let n = smaller(c.made, c.standing) + 1;
+    Counts {
+        made: n,
+        standing: n,
+    }
+}
+
+// Taking back lowers standing by one; at 0 it changes nothing.
+pub fn taken_back(c: Counts) -> Counts
+    ensures { λ r. ⌜ r ≡ takenBack c ⌝ }
+{
+    if c.standing == 0 {
+        return c;
+    }
+    Counts {
+        made: c.made,
+        standing: c.standing - 1,
+    }
+}
+
+// Retaking raises standing by one; at made or above it changes nothing.
+pub fn retaken(c: Counts) -> Counts
+    ensures { λ r. ⌜ r ≡ retakenOf c ⌝ }
+{
+    if c.standing >= c.made {
+        return c;
+    }
+    Counts {
+        made: c.made,
+        standing: c.standing + 1,
+    }
+}
