@@ -3,42 +3,37 @@
 -- Assumes nothing.
 use Prim.Native.Nat.{ℕ, zero, suc, _+_, _-_, _≤_, _<_}
 use mathlib.Core.Path.{_≡_, refl, sym, ap, _∙_}
-use mathlib.Core.Bool.{Bool, true, false}
+use mathlib.Core.Bool.{Bool, true}
 use native.Mathlib.Nat.{sub-eq-zero-of-le}
 use native.Mathlib.Numerals.{add-one}
 use native.Mathlib.Omega.{arith}
 use borrow.Author.Tests.{eq-eqb, ne-eqb}
-use lib.Dec.{eqb}
-use Rattle.sudoku.proofs.Walks.{pick-true, pick-false, left-one}
+use Rattle.sudoku.proofs.Walks.{pick-true, left-one}
 use Rattle.puzzle.specs.declared.Refusal.{Refusal}
 use Rattle.puzzle.specs.Refusals.{accepted, isAccepted, refusedIf, orElse, firstRefused}
+use Rattle.puzzle.proofs.Accepted.{or-else-first, or-else-next}
 
--- refused where the test holds, else accepted
+-- refused where the test holds
 pub refused-if : (t : Bool) (r : Refusal) → t ≡ true → refusedIf t r ≡ r
 unfolding refusedIf
 refused-if t r p = pick-true t r accepted p
 
-pub accepted-if : (t : Bool) (r : Refusal) → t ≡ false → refusedIf t r ≡ accepted
-unfolding refusedIf
-accepted-if t r p = pick-false t r accepted p
-
 module _ (a b : Refusal) where
-  -- the first refuses
-  pub or-else-first : (a .number ≡ 0 → ⊥) → orElse a b ≡ a
-  unfolding orElse isAccepted
-  or-else-first h = pick-false (eqb (a .number) 0) b a (ne-eqb (a .number) 0 h)
+  -- by the number of the first: it refuses, or it accepts
+  pub or-else-refused : (a .number ≡ 0 → ⊥) → orElse a b ≡ a
+  unfolding isAccepted
+  or-else-refused h = or-else-first a b (ne-eqb (a .number) 0 h)
 
-  -- the first accepts
-  pub or-else-second : a .number ≡ 0 → orElse a b ≡ b
-  unfolding orElse isAccepted
-  or-else-second h = pick-true (eqb (a .number) 0) b a (eq-eqb (a .number) 0 h)
+  pub or-else-passed : a .number ≡ 0 → orElse a b ≡ b
+  unfolding isAccepted
+  or-else-passed h = or-else-next a b (eq-eqb (a .number) 0 h)
 
 -- the first is known
 pub or-else-by : (a b r : Refusal) → a ≡ r → (r .number ≡ 0 → ⊥) → orElse a b ≡ r
-or-else-by a b r e h = ap (λ (x : Refusal). orElse x b) e ∙ or-else-first r b h
+or-else-by a b r e h = ap (λ (x : Refusal). orElse x b) e ∙ or-else-refused r b h
 
 pub or-else-past : (a b : Refusal) → a ≡ accepted → orElse a b ≡ b
-or-else-past a b e = or-else-second a b (ap (λ (x : Refusal). x .number) e)
+or-else-past a b e = or-else-passed a b (ap (λ (x : Refusal). x .number) e)
 
 module _ (f : ℕ → Refusal) (e i : ℕ) where
   pub walk-step : i < e → firstRefused f (e - i) i ≡ orElse (f i) (firstRefused f (e - (i + 1)) (i + 1))
@@ -53,7 +48,7 @@ module _ (f : ℕ → Refusal) (e i : ℕ) where
 
   pub walk-more : (r : Refusal) → i < e → r ≡ f i → r .number ≡ 0 → firstRefused f (e - i) i ≡ firstRefused f (e - (i + 1)) (i + 1)
   walk-more r h q n =
-      walk-step h ∙ or-else-second (f i) (firstRefused f (e - (i + 1)) (i + 1)) (ap (λ (x : Refusal). x .number) (sym q) ∙ n)
+      walk-step h ∙ or-else-passed (f i) (firstRefused f (e - (i + 1)) (i + 1)) (ap (λ (x : Refusal). x .number) (sym q) ∙ n)
 
   pub walk-all : e ≤ i → firstRefused f (e - i) i ≡ accepted
   unfolding firstRefused

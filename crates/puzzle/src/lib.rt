@@ -12,6 +12,7 @@ ghost use Rattle.sudoku.specs.Tests.{count};
 ghost use Rattle.sudoku.specs.Grid.{at};
 ghost use Rattle.puzzle.specs.Puzzle.{isHeld, holdsDigit, conflicts as conflictsAt, isFull, isConsistent, settled as settledBy, digitsLeft};
 
+pub mod answer;
 pub mod given_bytes;
 pub mod proof;
 

@@ -2,6 +2,8 @@
 use crate::Given;
 use crate::Layout;
 use crate::Refusal;
+use crate::answer::accepted;
+use crate::answer::refusal;
 use crate::byte_at;
 use crate::digit_at;
 use crate::given_bytes::given_at;
@@ -17,21 +19,10 @@ use sudoku::peers;
 use sudoku::wide;
 ghost use mathlib.Core.Path.{_≡_};
 ghost use Prim.Native.Nat.{_<_};
-ghost use Rattle.puzzle.specs.Refusals.{refusal as refusalOf, firstRefused};
+ghost use Rattle.puzzle.specs.Refusals.{firstRefused};
 ghost use Rattle.puzzle.specs.Givens.{givensIn};
 ghost use Rattle.puzzle.specs.Rows.{rowAt, rowsOf, flat as flatOf};
 ghost use Rattle.puzzle.specs.Vouch.{solutionDigit, firstHolding, solutionConflict, givenMatches, givensMatch, vouch as vouchOf, wellPosed};
-
-// An answer with its number, place and inner number.
-pub fn refusal(number: u8, place: usize, inner: u8) -> Refusal
-    ensures { λ r. ⌜ r ≡ refusalOf number place inner ⌝ }
-{
-    Refusal {
-        number: number,
-        place: place,
-        inner: inner,
-    }
-}
 
 // 23 and 24 at one cell of the solution.
 fn solution_digit(solution: &[u8], cell: usize) -> Refusal
@@ -44,7 +35,7 @@ fn solution_digit(solution: &[u8], cell: usize) -> Refusal
     if digit > SIDE {
         return refusal(24, cell, 0);
     }
-    refusal(0, 0, 0)
+    accepted()
 }
 
 // 23 and 24: the first cell of the solution, in grid order, that is empty or holds something out of range. A solution that is too short is not full.
@@ -59,7 +50,7 @@ pub fn filled(solution: &[u8]) -> Refusal
         }
         cell += 1;
     }
-    refusal(0, 0, 0)
+    accepted()
 }
 
 // The nine digits of the solution's row r, counted from 0.
@@ -125,7 +116,7 @@ fn conflict_at(digits: &[u8; 81], cell: usize) -> Refusal
     if peer != 0 {
         return refusal(25, cell, peer);
     }
-    refusal(0, 0, 0)
+    accepted()
 }
 
 // 25 over the cells in grid order.
@@ -140,7 +131,7 @@ fn first_conflict(digits: &[u8; 81]) -> Refusal
         }
         cell += 1;
     }
-    refusal(0, 0, 0)
+    accepted()
 }
 
 // 25: whether two peers of the solution hold one digit; the first such pair in grid order.
@@ -161,7 +152,7 @@ fn given_matches(digits: &[u8; 81], g: Given, index: usize) -> Refusal
     if digit_at(digits, cell_of(g.row, g.column)) != g.digit {
         return refusal(27, index, 0);
     }
-    refusal(0, 0, 0)
+    accepted()
 }
 
 // 26 and 27 over the givens in order.
@@ -176,7 +167,7 @@ fn first_mismatch(digits: &[u8; 81], bytes: &[u8], layout: Layout, count: usize)
         }
         i += 1;
     }
-    refusal(0, 0, 0)
+    accepted()
 }
 
 // 26 and 27: the first given that is off the grid or whose digit is not the solution's there.

@@ -10,7 +10,8 @@ use Rattle.sudoku.specs.Grid.{at, peersOf}
 use Rattle.sudoku.proofs.Walks.{not-is-true, not-is-false}
 use Rattle.puzzle.specs.Refusals.{refusal, accepted}
 use Rattle.puzzle.specs.Vouch.{firstHolding, solutionConflict}
-use Rattle.puzzle.proofs.Refusals.{refused-if, accepted-if}
+use Rattle.puzzle.proofs.Accepted.{if-not}
+use Rattle.puzzle.proofs.Refusals.{refused-if}
 use Rattle.puzzle.proofs.proof.conflict_at.Statement.{statement}
 use Rattle.puzzle.proofs.proof.conflict_at.Tie as tie
 
@@ -21,7 +22,7 @@ module _ (s : List ℕ) (cell peer : ℕ) (e : peer ≡ firstHolding s (at s cel
 
   free : peer ≡ 0 → solutionConflict s cell ≡ accepted
   unfolding solutionConflict
-  free z = rw (← e) (accepted-if _ (refusal 25 cell peer) (not-is-false (eqb peer 0) (eq-eqb peer 0 z)))
+  free z = rw (← e) (if-not _ (refusal 25 cell peer) (not-is-false (eqb peer 0) (eq-eqb peer 0 z)))
 
 -- what the walk found is the first peer equal to the cell
 found : (c : tie.After-first-holding) → c .first-holding .result ≡ firstHolding (c .before .before .before .args .digits .now) (at (c .before .before .before .args .digits .now) (c .before .before .before .args .cell)) (peersOf (c .before .before .before .args .cell))
@@ -43,12 +44,12 @@ returns : tie.Need-returns
 returns c =
     c .refusal .ensures ∙ sym (held (c .before .before .before .before .before .args .digits .now) (c .before .before .before .before .before .args .cell) (c .before .before .first-holding .result) (found ((c .before .before))) (c .before .if1 .taken))
 
-refusal-requires-2 : tie.Need-refusal-requires-2
-refusal-requires-2 c κs = search needs
+accepted-requires : tie.Need-accepted-requires
+accepted-requires c κs = search needs
 
 returns-2 : tie.Need-returns-2
 returns-2 c =
-    c .refusal2 .ensures ∙ sym (free (c .before .before .before .before .before .args .digits .now) (c .before .before .before .before .before .args .cell) (c .before .before .first-holding .result) (found ((c .before .before))) (c .before .if1 .left))
+    c .accepted .ensures ∙ sym (free (c .before .before .before .before .before .args .digits .now) (c .before .before .before .before .before .args .cell) (c .before .before .first-holding .result) (found ((c .before .before))) (c .before .if1 .left))
 
 pub conflict-at-spec : {M : Type 1} → statement M
 conflict-at-spec =
@@ -59,5 +60,5 @@ conflict-at-spec =
     first-holding-requires
     refusal-requires
     returns
-    refusal-requires-2
+    accepted-requires
     returns-2)

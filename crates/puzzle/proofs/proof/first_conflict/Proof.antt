@@ -34,11 +34,11 @@ loop-less c = search needs
 loop-again : tie.Need-loop-again Inv-loop μ-loop
 loop-again c = (omega arith, omega arith, c .before .before .before .before .loop .inv .2 ∙ walk-more (solutionConflict (c .before .before .before .before .before .args .digits .now)) 82 (c .before .before .before .before .loop .cell) (c .before .before .conflict-at .result) (omega arith) (c .before .before .conflict-at .ensures) (c .if1 .left))
 
-refusal-requires : tie.Need-refusal-requires Inv-loop μ-loop
-refusal-requires c κs = search needs
+accepted-requires : tie.Need-accepted-requires Inv-loop μ-loop
+accepted-requires c κs = search needs
 
 returns-2 : tie.Need-returns-2 Inv-loop μ-loop
-returns-2 c = c .refusal .ensures ∙ sym (c .before .before .loop .inv .2 ∙ walk-all (solutionConflict (c .before .before .before .args .digits .now)) 82 (c .before .before .loop .cell) (omega arith))
+returns-2 c = c .accepted .ensures ∙ sym (c .before .before .loop .inv .2 ∙ walk-all (solutionConflict (c .before .before .before .args .digits .now)) 82 (c .before .before .loop .cell) (omega arith))
 
 pub first-conflict-spec : {M : Type 1} → statement M
 first-conflict-spec =
@@ -52,5 +52,5 @@ first-conflict-spec =
     add-cell
     loop-less
     loop-again
-    refusal-requires
+    accepted-requires
     returns-2)

@@ -46,11 +46,11 @@ loop-less c = search needs
 loop-again : tie.Need-loop-again Inv-loop μ-loop
 loop-again c = (omega arith, c .before .before .before .before .before .loop .inv .1 ∙ walk-more (matchAt (givenIn (c .before .before .before .before .before .before .before .args .layout) (c .before .before .before .before .before .before .before .args .bytes .now)) (c .before .before .before .before .before .before .before .args .digits .now)) (c .before .before .before .before .before .before .before .args .count) (c .before .before .before .before .before .loop .i) (c .before .before .given-matches .result) (c .before .before .before .before .loop-test .taken) (c .before .before .given-matches .ensures ∙ ap (λ (g : Given). givenMatches (c .before .before .before .before .before .before .before .args .digits .now) g (c .before .before .before .before .before .loop .i + 1)) (c .before .before .before .given-at .ensures)) (c .if1 .left))
 
-refusal-requires : tie.Need-refusal-requires Inv-loop μ-loop
-refusal-requires c κs = search needs
+accepted-requires : tie.Need-accepted-requires Inv-loop μ-loop
+accepted-requires c κs = search needs
 
 returns-2 : tie.Need-returns-2 Inv-loop μ-loop
-returns-2 c = c .refusal .ensures ∙ sym (c .before .before .loop .inv .1 ∙ walk-all (matchAt (givenIn (c .before .before .before .before .args .layout) (c .before .before .before .before .args .bytes .now)) (c .before .before .before .before .args .digits .now)) (c .before .before .before .before .args .count) (c .before .before .loop .i) (c .before .loop-test .left))
+returns-2 c = c .accepted .ensures ∙ sym (c .before .before .loop .inv .1 ∙ walk-all (matchAt (givenIn (c .before .before .before .before .args .layout) (c .before .before .before .before .args .bytes .now)) (c .before .before .before .before .args .digits .now)) (c .before .before .before .before .args .count) (c .before .before .loop .i) (c .before .loop-test .left))
 
 pub first-mismatch-spec : {M : Type 1} → statement M
 first-mismatch-spec =
@@ -66,5 +66,5 @@ first-mismatch-spec =
     add-i
     loop-less
     loop-again
-    refusal-requires
+    accepted-requires
     returns-2)

@@ -12,7 +12,8 @@ use Rattle.sudoku.proofs.Walks.{not-is-true, not-is-false}
 use Rattle.puzzle.specs.declared.Given.{Given}
 use Rattle.puzzle.specs.Refusals.{refusal, accepted}
 use Rattle.puzzle.specs.Vouch.{givenMatches}
-use Rattle.puzzle.proofs.Refusals.{refused-if, accepted-if, or-else-by, or-else-past}
+use Rattle.puzzle.proofs.Accepted.{if-not}
+use Rattle.puzzle.proofs.Refusals.{refused-if, or-else-by, or-else-past}
 use Rattle.puzzle.proofs.proof.given_matches.Statement.{statement}
 use Rattle.puzzle.proofs.proof.given_matches.Tie as tie
 
@@ -26,14 +27,14 @@ module _ (s : List ℕ) (g : Given) (index : ℕ) where
     differs : (at s (cellOf (g .row) (g .column)) ≡ g .digit → ⊥) → givenMatches s g index ≡ refusal 27 index 0
     unfolding givenMatches
     differs n =
-        or-else-past _ _ (accepted-if _ (refusal 26 index 0) (not-is-false (onGrid (g .row) (g .column)) p))
+        or-else-past _ _ (if-not _ (refusal 26 index 0) (not-is-false (onGrid (g .row) (g .column)) p))
         ∙ refused-if _ (refusal 27 index 0) (not-is-true (eqb (at s (cellOf (g .row) (g .column))) (g .digit)) (ne-eqb (at s (cellOf (g .row) (g .column))) (g .digit) n))
 
     agrees : at s (cellOf (g .row) (g .column)) ≡ g .digit → givenMatches s g index ≡ accepted
     unfolding givenMatches
     agrees e =
-        or-else-past _ _ (accepted-if _ (refusal 26 index 0) (not-is-false (onGrid (g .row) (g .column)) p))
-        ∙ accepted-if _ (refusal 27 index 0) (not-is-false (eqb (at s (cellOf (g .row) (g .column))) (g .digit)) (eq-eqb (at s (cellOf (g .row) (g .column))) (g .digit) e))
+        or-else-past _ _ (if-not _ (refusal 26 index 0) (not-is-false (onGrid (g .row) (g .column)) p))
+        ∙ if-not _ (refusal 27 index 0) (not-is-false (eqb (at s (cellOf (g .row) (g .column))) (g .digit)) (eq-eqb (at s (cellOf (g .row) (g .column))) (g .digit) e))
 
 -- the digit that was read is the solution's at the given's cell
 read : (c : tie.After-digit-at) → c .digit-at .result ≡ at (c .before .before .before .before .args .digits .now) (cellOf (c .before .before .before .before .args .g .row) (c .before .before .before .before .args .g .column))
@@ -60,11 +61,11 @@ refusal-requires-2 c κs = search needs
 returns-2 : tie.Need-returns-2
 returns-2 c = c .refusal2 .ensures ∙ sym (differs (c .before .before .before .before .before .before .before .args .digits .now) (c .before .before .before .before .before .before .before .args .g) (c .before .before .before .before .before .before .before .args .index) (sym (c .before .before .before .before .before .before .on-grid .ensures) ∙ not-false _ (c .before .before .before .before .before .if1 .left)) (λ e. c .before .if2 .taken (read ((c .before .before .before)) ∙ e)))
 
-refusal-requires-3 : tie.Need-refusal-requires-3
-refusal-requires-3 c κs = search needs
+accepted-requires : tie.Need-accepted-requires
+accepted-requires c κs = search needs
 
 returns-3 : tie.Need-returns-3
-returns-3 c = c .refusal3 .ensures ∙ sym (agrees (c .before .before .before .before .before .before .before .args .digits .now) (c .before .before .before .before .before .before .before .args .g) (c .before .before .before .before .before .before .before .args .index) (sym (c .before .before .before .before .before .before .on-grid .ensures) ∙ not-false _ (c .before .before .before .before .before .if1 .left)) (sym (read ((c .before .before .before))) ∙ c .before .if2 .left))
+returns-3 c = c .accepted .ensures ∙ sym (agrees (c .before .before .before .before .before .before .before .args .digits .now) (c .before .before .before .before .before .before .before .args .g) (c .before .before .before .before .before .before .before .args .index) (sym (c .before .before .before .before .before .before .on-grid .ensures) ∙ not-false _ (c .before .before .before .before .before .if1 .left)) (sym (read ((c .before .before .before))) ∙ c .before .if2 .left))
 
 pub given-matches-spec : {M : Type 1} → statement M
 given-matches-spec =
@@ -77,5 +78,5 @@ given-matches-spec =
     digit-at-requires
     refusal-requires-2
     returns-2
-    refusal-requires-3
+    accepted-requires
     returns-3)

@@ -10,7 +10,8 @@ use Rattle.sudoku.specs.Grid.{at}
 use Rattle.sudoku.proofs.Walks.{not-is-true, not-is-false}
 use Rattle.puzzle.specs.Refusals.{refusal, accepted}
 use Rattle.puzzle.specs.Vouch.{solutionDigit}
-use Rattle.puzzle.proofs.Refusals.{refused-if, accepted-if, or-else-by, or-else-past}
+use Rattle.puzzle.proofs.Accepted.{if-not}
+use Rattle.puzzle.proofs.Refusals.{refused-if, or-else-by, or-else-past}
 use Rattle.puzzle.proofs.proof.solution_digit.Statement.{statement}
 use Rattle.puzzle.proofs.proof.solution_digit.Tie as tie
 
@@ -24,14 +25,14 @@ module _ (s : List ℕ) (cell : ℕ) where
     large : 9 < at s cell → solutionDigit s cell ≡ refusal 24 cell 0
     unfolding solutionDigit
     large h =
-        or-else-past _ _ (accepted-if (eqb (at s cell) 0) (refusal 23 cell 0) (ne-eqb (at s cell) 0 n))
+        or-else-past _ _ (if-not (eqb (at s cell) 0) (refusal 23 cell 0) (ne-eqb (at s cell) 0 n))
         ∙ refused-if _ (refusal 24 cell 0) (not-is-true (leb (at s cell) 9) (lt-leb (at s cell) 9 h))
 
     digit : at s cell ≤ 9 → solutionDigit s cell ≡ accepted
     unfolding solutionDigit
     digit h =
-        or-else-past _ _ (accepted-if (eqb (at s cell) 0) (refusal 23 cell 0) (ne-eqb (at s cell) 0 n))
-        ∙ accepted-if _ (refusal 24 cell 0) (not-is-false (leb (at s cell) 9) (le-leb (at s cell) 9 h))
+        or-else-past _ _ (if-not (eqb (at s cell) 0) (refusal 23 cell 0) (ne-eqb (at s cell) 0 n))
+        ∙ if-not _ (refusal 24 cell 0) (not-is-false (leb (at s cell) 9) (le-leb (at s cell) 9 h))
 
 -- the byte that was read is the solution's digit
 read : (c : tie.After-byte-at) → c .byte-at .result ≡ at (c .before .before .before .args .solution .now) (c .before .before .before .args .cell)
@@ -56,11 +57,11 @@ refusal-requires-2 c κs = search needs
 returns-2 : tie.Need-returns-2
 returns-2 c = c .refusal2 .ensures ∙ sym (large (c .before .before .before .before .before .before .args .solution .now) (c .before .before .before .before .before .before .args .cell) (λ e. c .before .before .if1 .left (read ((c .before .before .before)) ∙ e)) (rw (read ((c .before .before .before))) at (c .before .if2 .taken)))
 
-refusal-requires-3 : tie.Need-refusal-requires-3
-refusal-requires-3 c κs = search needs
+accepted-requires : tie.Need-accepted-requires
+accepted-requires c κs = search needs
 
 returns-3 : tie.Need-returns-3
-returns-3 c = c .refusal3 .ensures ∙ sym (digit (c .before .before .before .before .before .before .args .solution .now) (c .before .before .before .before .before .before .args .cell) (λ e. c .before .before .if1 .left (read ((c .before .before .before)) ∙ e)) (rw (read ((c .before .before .before))) at (c .before .if2 .left)))
+returns-3 c = c .accepted .ensures ∙ sym (digit (c .before .before .before .before .before .before .args .solution .now) (c .before .before .before .before .before .before .args .cell) (λ e. c .before .before .if1 .left (read ((c .before .before .before)) ∙ e)) (rw (read ((c .before .before .before))) at (c .before .if2 .left)))
 
 pub solution-digit-spec : {M : Type 1} → statement M
 solution-digit-spec =
@@ -72,5 +73,5 @@ solution-digit-spec =
     returns
     refusal-requires-2
     returns-2
-    refusal-requires-3
+    accepted-requires
     returns-3)

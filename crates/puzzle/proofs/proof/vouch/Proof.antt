@@ -14,7 +14,8 @@ use Rattle.puzzle.specs.Refusals.{refusal, firstRefused, orElse}
 use Rattle.puzzle.specs.Givens.{givensIn}
 use Rattle.puzzle.specs.Rows.{rowsOf, flat}
 use Rattle.puzzle.specs.Vouch.{nothingLeft, solutionDigit, solutionConflict, givensMatch, vouch}
-use Rattle.puzzle.proofs.Refusals.{refused-if, accepted-if, or-else-by, or-else-second, or-else-past}
+use Rattle.puzzle.proofs.Accepted.{if-not}
+use Rattle.puzzle.proofs.Refusals.{refused-if, or-else-by, or-else-passed, or-else-past}
 use Rattle.puzzle.proofs.GivenBytes.{length-givens}
 use Rattle.puzzle.proofs.Rows.{flat-rows-cell, conflicts-same, matches-same}
 use Rattle.puzzle.proofs.proof.vouch.Statement.{statement}
@@ -34,7 +35,7 @@ module _ (gs : List Given) (s : List ℕ) where
     -- what 23 to 27 say
     some-left : vouch gs s ≡ orElse (firstRefused (solutionDigit s) 81 1) (orElse (firstRefused (solutionConflict s) 81 1) (givensMatch s gs 1))
     unfolding vouch nothingLeft
-    some-left = or-else-past _ _ (accepted-if (leb 81 (length gs)) (refusal 22 0 0) (lt-leb 81 (length gs) h))
+    some-left = or-else-past _ _ (if-not (leb 81 (length gs)) (refusal 22 0 0) (lt-leb 81 (length gs) h))
 
     module _ (f : Refusal) (e : f ≡ firstRefused (solutionDigit s) 81 1) where
       not-filled : (f .number ≡ 0 → ⊥) → vouch gs s ≡ f
@@ -44,14 +45,14 @@ module _ (gs : List Given) (s : List ℕ) where
         full : vouch gs s ≡ orElse r (givensMatch s gs 1)
         full =
             some-left
-            ∙ or-else-second _ _ (ap (λ (x : Refusal). x .number) (sym e) ∙ z)
+            ∙ or-else-passed _ _ (ap (λ (x : Refusal). x .number) (sym e) ∙ z)
             ∙ ap (λ (x : Refusal). orElse x (givensMatch s gs 1)) (sym (d ∙ conflicts-same (flat (rowsOf s)) s (flat-rows-cell s)))
 
         in-conflict : (r .number ≡ 0 → ⊥) → vouch gs s ≡ r
         in-conflict n = full ∙ or-else-by r (givensMatch s gs 1) r refl n
 
         to-match : r .number ≡ 0 → vouch gs s ≡ givensMatch (flat (rowsOf s)) gs 1
-        to-match n = full ∙ or-else-second r (givensMatch s gs 1) n ∙ sym (matches-same (flat (rowsOf s)) s (flat-rows-cell s) gs 1)
+        to-match n = full ∙ or-else-passed r (givensMatch s gs 1) n ∙ sym (matches-same (flat (rowsOf s)) s (flat-rows-cell s) gs 1)
 
 refusal-requires : tie.Need-refusal-requires
 refusal-requires c κs = search needs

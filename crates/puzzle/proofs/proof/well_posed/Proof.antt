@@ -7,7 +7,8 @@ use Rattle.sudoku.proofs.Walks.{not-is-true, not-is-false}
 use Rattle.puzzle.specs.Refusals.{refusal}
 use Rattle.puzzle.specs.Givens.{givensIn, ascending}
 use Rattle.puzzle.specs.Vouch.{vouch, wellPosed}
-use Rattle.puzzle.proofs.Refusals.{refused-if, accepted-if, or-else-by, or-else-past}
+use Rattle.puzzle.proofs.Accepted.{if-not}
+use Rattle.puzzle.proofs.Refusals.{refused-if, or-else-by, or-else-past}
 use Rattle.puzzle.proofs.proof.well_posed.Statement.{statement}
 use Rattle.puzzle.proofs.proof.well_posed.Tie as tie
 
@@ -32,7 +33,7 @@ unfolding wellPosed
 returns-2 c =
     c .vouch .ensures
     ∙ sym (or-else-past _ _
-    (accepted-if _ (refusal 19 0 0) (not-is-false (ascending (givensIn (c .before .before .before .before .before .args .layout) (c .before .before .before .before .before .args .bytes .now) (c .before .before .before .before .before .args .count))) (sym (c .before .before .is-ascending .ensures) ∙ not-false _ (c .before .if1 .left)))))
+    (if-not _ (refusal 19 0 0) (not-is-false (ascending (givensIn (c .before .before .before .before .before .args .layout) (c .before .before .before .before .before .args .bytes .now) (c .before .before .before .before .before .args .count))) (sym (c .before .before .is-ascending .ensures) ∙ not-false _ (c .before .if1 .left)))))
 
 pub well-posed-spec : {M : Type 1} → statement M
 well-posed-spec =
