@@ -297,6 +297,26 @@ slot-behind front n slot rest e small =
     ∙ ap (λ (k : ℕ). getD (front ++ bytesOf slot) k 0) {x = slotBytes * (n + 1 - 1) + i} {y = length front + i} (omega arith)
     ∙ getD-append-add front (bytesOf slot) i 0)
 
+-- and one behind one slot's bytes
+pub slot-later : (front rest : List ℕ) (k : ℕ) → length front ≡ slotBytes → 1 ≤ k → slotAt (front ++ rest) (k + 1) ≡ slotAt rest k
+unfolding slotAt slotStart
+slot-later front rest k e f =
+    λ j.
+    record {
+      kind = (ap (λ (i : ℕ). getD (front ++ rest) i 0) {x = slotBytes * (k + 1 - 1)} {y = length front + slotBytes * (k - 1)} (omega arith)
+          ∙ getD-append-add front rest (slotBytes * (k - 1)) 0) j;
+      row = by 1 j;
+      column = by 2 j;
+      digit = by 3 j;
+      before = by 4 j;
+      struck = three (by 5 j) (by 6 j) (by 7 j);
+    }
+  where
+    by : (i : ℕ) → getD (front ++ rest) (slotBytes * (k + 1 - 1) + i) 0 ≡ getD rest (slotBytes * (k - 1) + i) 0
+    by i =
+        ap (λ (m : ℕ). getD (front ++ rest) m 0) {x = slotBytes * (k + 1 - 1) + i} {y = length front + (slotBytes * (k - 1) + i)} (omega arith)
+        ∙ getD-append-add front rest (slotBytes * (k - 1) + i) 0
+
 -- the bytes of a list of slots, one after the other
 unfoldable pub slotsBytes : List Slot → List ℕ
 slotsBytes [] = []
@@ -306,3 +326,213 @@ pub length-slots : (slots : List Slot) → length (slotsBytes slots) ≡ slotByt
 unfolding slotsBytes bytesOf
 length-slots [] = refl
 length-slots (slot ∷ slots) = omega (arith, length-slots slots)
+
+-- slot i + 1 of a journal that begins with them
+pub slot-listed : (slots : List Slot) (rest : List ℕ) (i : ℕ) (none : Slot) → i < length slots → getD slots i none .struck < 2 ^ 24
+    → slotAt (slotsBytes slots ++ rest) (i + 1) ≡ getD slots i none
+unfolding slotsBytes
+slot-listed [] rest i none h small = absurd (not-suc-le-zero h)
+slot-listed (slot ∷ slots) rest zero none h small =
+    ap (λ (l : List ℕ). slotAt l 1) (append-assoc (bytesOf slot) (slotsBytes slots) rest)
+    ∙ slot-behind [] 0 slot (slotsBytes slots ++ rest) refl small
+slot-listed (slot ∷ slots) rest (suc i) none h small =
+    ap (λ (l : List ℕ). slotAt l (suc i + 1)) (append-assoc (bytesOf slot) (slotsBytes slots) rest)
+    ∙ ap (λ (k : ℕ). slotAt (bytesOf slot ++ (slotsBytes slots ++ rest)) k) {x = suc i + 1} {y = i + 1 + 1} (omega arith)
+    ∙ slot-later (bytesOf slot) (slotsBytes slots ++ rest) (i + 1) (bytes-length slot) (omega arith)
+    ∙ slot-listed slots rest i none (le-of-suc-le-suc h) small
+
+-- byte i of the slot that was read is the byte that stood there
+slot-byte : (journal : List ℕ) (n : ℕ) → ((i : ℕ) → i < slotBytes → getD journal (slotStart n + i) 0 < 256)
+    → (i : ℕ) → i < 8 → getD (bytesOf (slotAt journal n)) i 0 ≡ getD journal (slotStart n + i) 0
+unfolding bytesOf slotAt
+slot-byte journal n small zero u = ap (λ (k : ℕ). getD journal k 0) (sym (add-zero (slotStart n)))
+slot-byte journal n small (suc zero) u = refl
+slot-byte journal n small (suc (suc zero)) u = refl
+slot-byte journal n small (suc (suc (suc zero))) u = refl
+slot-byte journal n small (suc (suc (suc (suc zero)))) u = refl
+slot-byte journal n small (suc (suc (suc (suc (suc zero))))) u =
+    low-three (getD journal (slotStart n + 5) 0) (getD journal (slotStart n + 6) 0) (small 5 (omega arith)) (small 6 (omega arith)) (getD journal (slotStart n + 7) 0) (small 7 (omega arith))
+slot-byte journal n small (suc (suc (suc (suc (suc (suc zero)))))) u =
+    second-three (getD journal (slotStart n + 5) 0) (getD journal (slotStart n + 6) 0) (small 5 (omega arith)) (small 6 (omega arith)) (getD journal (slotStart n + 7) 0) (small 7 (omega arith))
+slot-byte journal n small (suc (suc (suc (suc (suc (suc (suc zero))))))) u =
+    third-three (getD journal (slotStart n + 5) 0) (getD journal (slotStart n + 6) 0) (small 5 (omega arith)) (small 6 (omega arith)) (getD journal (slotStart n + 7) 0) (small 7 (omega arith))
+slot-byte journal n small (suc (suc (suc (suc (suc (suc (suc (suc i)))))))) u = absurd (omega arith)
+
+-- a slot whose bytes are bytes is written as it was read
+pub slot-part-bytes : (journal : List ℕ) (n : ℕ) → slotStart n + slotBytes ≤ length journal
+    → ((i : ℕ) → i < slotBytes → getD journal (slotStart n + i) 0 < 256) → bytesOf (slotAt journal n) ≡ slotPart journal n
+unfolding slotPart part
+slot-part-bytes journal n fits small =
+    ext-getD 0 (bytesOf (slotAt journal n)) (take slotBytes (drop (slotStart n) journal)) (bytes-length (slotAt journal n) ∙ sym full)
+    (λ i u. at-byte i (omega (arith, bytes-length (slotAt journal n))) ∙ sym (getD-take slotBytes (drop (slotStart n) journal) i 0 (omega (arith, bytes-length (slotAt journal n))) ∙ getD-drop (slotStart n) journal i 0))
+  where
+    full : length (take slotBytes (drop (slotStart n) journal)) ≡ slotBytes
+    full = length-take-le slotBytes (drop (slotStart n) journal) (omega (arith, length-drop (slotStart n) journal))
+
+    at-byte : (i : ℕ) → i < 8 → getD (bytesOf (slotAt journal n)) i 0 ≡ getD journal (slotStart n + i) 0
+    at-byte i u = slot-byte journal n small i u
+
+-- ---- stored checks
+
+pub stored-length : (c : Stored) → length (storedBytes c) ≡ checkBytes
+unfolding storedBytes
+stored-length c = refl
+
+pub length-stored : (cs : List Stored) → length (storedAll cs) ≡ checkBytes * length cs
+unfolding storedAll storedBytes
+length-stored [] = refl
+length-stored (c ∷ cs) = omega (arith, length-stored cs)
+
+verdict-bit : (t : Bool) → eqb (bit t) 1 ≡ t
+unfolding bit
+verdict-bit true = refl
+verdict-bit false = refl
+
+-- check n is read from its six bytes alone
+pub stored-same : (l k : List ℕ) (n : ℕ) → ((i : ℕ) → i < checkBytes → getD l (checkStart n + i) 0 ≡ getD k (checkStart n + i) 0) → storedAt l n ≡ storedAt k n
+unfolding storedAt verdictByte
+stored-same l k n h =
+    λ j.
+    record {
+      standing =
+          two ((ap (λ (i : ℕ). getD l i 0) (sym (add-zero (checkStart n))) ∙ h 0 (omega arith) ∙ ap (λ (i : ℕ). getD k i 0) (add-zero (checkStart n))) j)
+          (h 1 (omega arith) j);
+      row = h 2 (omega arith) j;
+      column = h 3 (omega arith) j;
+      digit = h 4 (omega arith) j;
+      right = eqb (h 5 (omega arith) j) 1;
+    }
+
+-- a memory that has a check's bytes at check n has the check there
+pub stored-read : (l : List ℕ) (n : ℕ) (c : Stored) → c .standing < 65536
+    → ((i : ℕ) → i < checkBytes → getD l (checkStart n + i) 0 ≡ getD (storedBytes c) i 0) → storedAt l n ≡ c
+unfolding storedAt verdictByte storedBytes
+stored-read l n c small h =
+    λ j.
+    record {
+      standing =
+          ((λ i. two ((ap (λ (m : ℕ). getD l m 0) (sym (add-zero (checkStart n))) ∙ h 0 (omega arith)) i) (h 1 (omega arith) i))
+          ∙ two-bytes (c .standing) small) j;
+      row = h 2 (omega arith) j;
+      column = h 3 (omega arith) j;
+      digit = h 4 (omega arith) j;
+      right = (ap (λ (b : ℕ). eqb b 1) (h 5 (omega arith)) ∙ verdict-bit (c .right)) j;
+    }
+
+-- where six bytes are written after n checks
+module _ (checks : List ℕ) (n : ℕ) (bytes : List ℕ) (six : length bytes ≡ checkBytes) (fits : checkBytes * (n + 1) ≤ length checks) where
+  check-fits : checkBytes * n + length bytes ≤ length checks
+  check-fits = omega arith
+
+  -- the others stay
+  other-check : (k : ℕ) → 1 ≤ k → (k ≡ n + 1 → ⊥) → (i : ℕ) → i < checkBytes
+      → getD (over checks (checkBytes * n) bytes) (checkStart k + i) 0 ≡ getD checks (checkStart k + i) 0
+  unfolding checkStart
+  other-check k f ne i u =
+      by-test (leb k n)
+      (λ t. let le : k ≤ n = leb-true k n t in
+      over-before checks (checkBytes * n) bytes check-fits (checkBytes * (k - 1) + i) 0 (omega arith))
+      (λ t. let gt : n < k = leb-false k n t in
+      over-after checks (checkBytes * n) bytes check-fits (checkBytes * (k - 1) + i) 0 (omega arith))
+
+  pub stored-other : (k : ℕ) → 1 ≤ k → (k ≡ n + 1 → ⊥) → storedAt (over checks (checkBytes * n) bytes) k ≡ storedAt checks k
+  stored-other k f ne = stored-same (over checks (checkBytes * n) bytes) checks k (other-check k f ne)
+
+  pub verdict-other : (k : ℕ) → 1 ≤ k → (k ≡ n + 1 → ⊥) → verdictByte (over checks (checkBytes * n) bytes) k ≡ verdictByte checks k
+  unfolding verdictByte
+  verdict-other k f ne = other-check k f ne 5 (omega arith)
+
+  pub check-byte-written : (i : ℕ) → i < checkBytes → getD (over checks (checkBytes * n) bytes) (checkStart (n + 1) + i) 0 ≡ getD bytes i 0
+  unfolding checkStart
+  check-byte-written i u =
+      ap (λ (k : ℕ). getD (over checks (checkBytes * n) bytes) (k + i) 0) {x = checkBytes * (n + 1 - 1)} {y = checkBytes * n} (omega arith)
+      ∙ over-inside checks (checkBytes * n) bytes check-fits i 0 (omega arith)
+
+-- a check written is read back
+module _ (checks : List ℕ) (n : ℕ) (c : Stored) (fits : checkBytes * (n + 1) ≤ length checks) where
+  pub stored-written : c .standing < 65536 → storedAt (over checks (checkBytes * n) (storedBytes c)) (n + 1) ≡ c
+  stored-written small =
+      stored-read (over checks (checkBytes * n) (storedBytes c)) (n + 1) c small (check-byte-written checks n (storedBytes c) (stored-length c) fits)
+
+  pub verdict-written : verdictByte (over checks (checkBytes * n) (storedBytes c)) (n + 1) ≡ bit (c .right)
+  unfolding verdictByte storedBytes
+  verdict-written = check-byte-written checks n (storedBytes c) (stored-length c) fits 5 (omega arith)
+
+-- checks 1 to n are read from the first n checks' bytes alone
+pub stored-take : (checks : List ℕ) (n k : ℕ) → 1 ≤ k → k ≤ n → storedAt (take (checkBytes * n) checks) k ≡ storedAt checks k
+unfolding checkStart
+stored-take checks n k f t =
+    stored-same (take (checkBytes * n) checks) checks k (λ i u. getD-take (checkBytes * n) checks (checkBytes * (k - 1) + i) 0 (omega arith))
+
+pub verdict-take : (checks : List ℕ) (n k : ℕ) → 1 ≤ k → k ≤ n → verdictByte (take (checkBytes * n) checks) k ≡ verdictByte checks k
+unfolding verdictByte checkStart
+verdict-take checks n k f t = getD-take (checkBytes * n) checks (checkBytes * (k - 1) + 5) 0 (omega arith)
+
+-- a check that stands behind n checks' bytes
+module _ (front : List ℕ) (n : ℕ) (c : Stored) (rest : List ℕ) (e : length front ≡ checkBytes * n) where
+  byte-behind : (i : ℕ) → i < checkBytes → getD (front ++ storedBytes c ++ rest) (checkStart (n + 1) + i) 0 ≡ getD (storedBytes c) i 0
+  unfolding checkStart
+  byte-behind i u =
+      List·getD-append (front ++ storedBytes c) rest 0 (checkBytes * (n + 1 - 1) + i) (omega (arith, length-append front (storedBytes c), stored-length c))
+      ∙ ap (λ (k : ℕ). getD (front ++ storedBytes c) k 0) {x = checkBytes * (n + 1 - 1) + i} {y = length front + i} (omega arith)
+      ∙ getD-append-add front (storedBytes c) i 0
+
+  pub stored-behind : c .standing < 65536 → storedAt (front ++ storedBytes c ++ rest) (n + 1) ≡ c
+  stored-behind small = stored-read (front ++ storedBytes c ++ rest) (n + 1) c small byte-behind
+
+  pub verdict-behind : verdictByte (front ++ storedBytes c ++ rest) (n + 1) ≡ bit (c .right)
+  unfolding verdictByte storedBytes
+  verdict-behind = byte-behind 5 (omega arith)
+
+-- and one behind one check's bytes
+module _ (front rest : List ℕ) (k : ℕ) (e : length front ≡ checkBytes) (f : 1 ≤ k) where
+  byte-later : (i : ℕ) → getD (front ++ rest) (checkStart (k + 1) + i) 0 ≡ getD rest (checkStart k + i) 0
+  unfolding checkStart
+  byte-later i =
+      ap (λ (m : ℕ). getD (front ++ rest) m 0) {x = checkBytes * (k + 1 - 1) + i} {y = length front + (checkBytes * (k - 1) + i)} (omega arith)
+      ∙ getD-append-add front rest (checkBytes * (k - 1) + i) 0
+
+  pub stored-later : storedAt (front ++ rest) (k + 1) ≡ storedAt rest k
+  unfolding storedAt verdictByte
+  stored-later =
+      λ j.
+      record {
+        standing =
+            two ((ap (λ (i : ℕ). getD (front ++ rest) i 0) (sym (add-zero (checkStart (k + 1)))) ∙ byte-later 0 ∙ ap (λ (i : ℕ). getD rest i 0) (add-zero (checkStart k))) j)
+            (byte-later 1 j);
+        row = byte-later 2 j;
+        column = byte-later 3 j;
+        digit = byte-later 4 j;
+        right = eqb (byte-later 5 j) 1;
+      }
+
+  pub verdict-later : verdictByte (front ++ rest) (k + 1) ≡ verdictByte rest k
+  unfolding verdictByte
+  verdict-later = byte-later 5
+
+-- check i + 1 of a memory that begins with stored checks
+pub stored-listed : (cs : List Stored) (rest : List ℕ) (i : ℕ) (none : Stored) → i < length cs → getD cs i none .standing < 65536
+    → storedAt (storedAll cs ++ rest) (i + 1) ≡ getD cs i none
+unfolding storedAll
+stored-listed [] rest i none h small = absurd (not-suc-le-zero h)
+stored-listed (c ∷ cs) rest zero none h small =
+    ap (λ (l : List ℕ). storedAt l 1) (append-assoc (storedBytes c) (storedAll cs) rest)
+    ∙ stored-behind [] 0 c (storedAll cs ++ rest) refl small
+stored-listed (c ∷ cs) rest (suc i) none h small =
+    ap (λ (l : List ℕ). storedAt l (suc i + 1)) (append-assoc (storedBytes c) (storedAll cs) rest)
+    ∙ ap (λ (k : ℕ). storedAt (storedBytes c ++ (storedAll cs ++ rest)) k) {x = suc i + 1} {y = i + 1 + 1} (omega arith)
+    ∙ stored-later (storedBytes c) (storedAll cs ++ rest) (i + 1) (stored-length c) (omega arith)
+    ∙ stored-listed cs rest i none (le-of-suc-le-suc h) small
+
+pub verdict-listed : (cs : List Stored) (rest : List ℕ) (i : ℕ) (none : Stored) → i < length cs
+    → verdictByte (storedAll cs ++ rest) (i + 1) ≡ bit (getD cs i none .right)
+unfolding storedAll
+verdict-listed [] rest i none h = absurd (not-suc-le-zero h)
+verdict-listed (c ∷ cs) rest zero none h =
+    ap (λ (l : List ℕ). verdictByte l 1) (append-assoc (storedBytes c) (storedAll cs) rest)
+    ∙ verdict-behind [] 0 c (storedAll cs ++ rest) refl
+verdict-listed (c ∷ cs) rest (suc i) none h =
+    ap (λ (l : List ℕ). verdictByte l (suc i + 1)) (append-assoc (storedBytes c) (storedAll cs) rest)
+    ∙ ap (λ (k : ℕ). verdictByte (storedBytes c ++ (storedAll cs ++ rest)) k) {x = suc i + 1} {y = i + 1 + 1} (omega arith)
+    ∙ verdict-later (storedBytes c) (storedAll cs ++ rest) (i + 1) (stored-length c) (omega arith)
+    ∙ verdict-listed cs rest i none (le-of-suc-le-suc h)
