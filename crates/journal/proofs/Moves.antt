@@ -11,7 +11,7 @@ use lib.ListN.{length, getD, replicate, getD-replicate, List·getD-eq-default}
 use Rattle.sudoku.specs.Tests.{pick, both, either}
 use Rattle.sudoku.specs.Grid.{inRange, onGrid, cellOf, isCell, at, put, peersOf}
 use Rattle.sudoku.proofs.Walks.{by-test, not-both-ways, pick-true, pick-false, both-true, both-right, both-second, both-false-left, both-false-right, either-left, either-right, every-at, Entry}
-use Rattle.sudoku.proofs.Grid.{cell-from, cell-to, is-cell, cell-of-is-cell, range-from, range-to, in-range, at-put, at-put-by, put-put, put-at, length-put, peers-from, peers-to, peers-length}
+use Rattle.sudoku.proofs.Grid.{cell-from, cell-to, is-cell, cell-of-is-cell, range-from, range-to, in-range, at-put, at-put-by, put-put, put-at, length-put, peers-length}
 use Rattle.sudoku.proofs.Each.{Each}
 use Rattle.note.specs.Note.{contains, isNote}
 use Rattle.note.proofs.Note.{contains-digit, isNote-zero}
@@ -24,6 +24,7 @@ use Rattle.journal.specs.declared.Move.the-variants.{Place, Erase, Write
 use Rattle.journal.specs.declared.Slot.{Slot}
 use Rattle.journal.specs.State.{State, opening, isGiven, digitAt, noteAt, withNotes, putDigit, writeAt, strikeAt, strikeAll, holders, strikeMasked, writeMasked, everyMasked, rowIn, columnIn, digitIn, kindOf, perform, before, struck, performAgain, takeBack, standsAsLeft, standsAsFound}
 use Rattle.journal.specs.Slots.{slotFor, moveOf, soundPlace, soundErase, soundMark, isSound}
+use Rattle.journal.proofs.PeerCells.{peers-within}
 use Rattle.journal.proofs.NoteCells.{isIn, isMasked, Within, AreNotes, in-at, masked-in, masked-holders, holders-small, strike-all-mark, strike-at-mark, write-at-mark, length-strike-all, length-strike-at, length-write-at, strike-all-notes, strike-at-notes, write-at-notes, strike-again, write-back, every-masked, strike-written, write-struck}
 
 -- what holds of every state played from its opening: 81 cells, digits 0 to 9, a digit in each given, notes of the marks 1 to 9, and the status that the digits have
@@ -66,11 +67,6 @@ Allowed s (WriteMark row column digit) = WriteAllowed s row column digit
 Allowed s (StrikeMark row column digit) = StrikeAllowed s row column digit
 
 -- ---- cells, peers and notes of a state
-
--- each peer of a cell is one of the 81
-pub peers-within : (cell : ℕ) → isCell cell ≡ true → Within 81 (peersOf cell)
-peers-within cell p i h =
-    (peers-from cell p i (omega (arith, peers-length cell)), peers-to cell p i (omega (arith, peers-length cell)))
 
 module _ (s : State) (f : Fit s) where
   pub notes-are : AreNotes (s .notes)

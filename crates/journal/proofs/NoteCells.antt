@@ -307,6 +307,53 @@ write-masked-mark notes d mask (cell ∷ cells) n m w f r =
     (pick-write (lowest mask) notes cell d n m (w 0 (omega arith) .0) (w 0 (omega arith) .1) f r)
     ∙ written-joined (contains (at notes n) m) (eqb m d) (both (lowest mask) (eqb cell n)) (isMasked (mask / 2) n cells)
 
+-- ---- a note elsewhere stays as it is
+
+module _ (notes : List ℕ) (cell d n : ℕ) (from : 1 ≤ cell) (to : cell ≤ length notes) (n-from : 1 ≤ n) (off : eqb cell n ≡ false) where
+  strike-at-elsewhere : at (strikeAt notes cell d) n ≡ at notes n
+  unfolding strikeAt
+  strike-at-elsewhere =
+      at-put-within notes cell n (without (at notes cell) d) from to n-from ∙ pick-false (eqb cell n) (without (at notes cell) d) (at notes n) off
+
+  write-at-elsewhere : at (writeAt notes cell d) n ≡ at notes n
+  unfolding writeAt
+  write-at-elsewhere =
+      at-put-within notes cell n (withMark (at notes cell) d) from to n-from ∙ pick-false (eqb cell n) (withMark (at notes cell) d) (at notes n) off
+
+pub strike-all-elsewhere : (notes : List ℕ) (d : ℕ) (cells : List ℕ) (n : ℕ) → Within (length notes) cells → 1 ≤ n → isIn n cells ≡ false
+    → at (strikeAll notes d cells) n ≡ at notes n
+unfolding strikeAll isIn
+strike-all-elsewhere notes d [] n w f off = refl
+strike-all-elsewhere notes d (cell ∷ cells) n w f off =
+    strike-all-elsewhere (strikeAt notes cell d) d cells n
+    (within-size (length notes) (length (strikeAt notes cell d)) cells (sym (length-strike-at notes cell d)) (within-rest (length notes) cell cells w)) f
+    (either-false-right (eqb cell n) (isIn n cells) off)
+    ∙ strike-at-elsewhere notes cell d n (w 0 (omega arith) .0) (w 0 (omega arith) .1) f (either-false-left (eqb cell n) (isIn n cells) off)
+
+pub strike-masked-elsewhere : (notes : List ℕ) (d mask : ℕ) (cells : List ℕ) (n : ℕ) → Within (length notes) cells → 1 ≤ n → isIn n cells ≡ false
+    → at (strikeMasked notes d mask cells) n ≡ at notes n
+unfolding strikeMasked isIn
+strike-masked-elsewhere notes d mask [] n w f off = refl
+strike-masked-elsewhere notes d mask (cell ∷ cells) n w f off =
+    strike-masked-elsewhere (pick (lowest mask) (strikeAt notes cell d) notes) d (mask / 2) cells n
+    (pick-either (λ (l : List ℕ). Within (length l) cells) (lowest mask) (strikeAt notes cell d) notes
+    (within-size (length notes) (length (strikeAt notes cell d)) cells (sym (length-strike-at notes cell d)) (within-rest (length notes) cell cells w))
+    (within-rest (length notes) cell cells w)) f (either-false-right (eqb cell n) (isIn n cells) off)
+    ∙ pick-either (λ (l : List ℕ). at l n ≡ at notes n) (lowest mask) (strikeAt notes cell d) notes
+    (strike-at-elsewhere notes cell d n (w 0 (omega arith) .0) (w 0 (omega arith) .1) f (either-false-left (eqb cell n) (isIn n cells) off)) refl
+
+pub write-masked-elsewhere : (notes : List ℕ) (d mask : ℕ) (cells : List ℕ) (n : ℕ) → Within (length notes) cells → 1 ≤ n → isIn n cells ≡ false
+    → at (writeMasked notes d mask cells) n ≡ at notes n
+unfolding writeMasked isIn
+write-masked-elsewhere notes d mask [] n w f off = refl
+write-masked-elsewhere notes d mask (cell ∷ cells) n w f off =
+    write-masked-elsewhere (pick (lowest mask) (writeAt notes cell d) notes) d (mask / 2) cells n
+    (pick-either (λ (l : List ℕ). Within (length l) cells) (lowest mask) (writeAt notes cell d) notes
+    (within-size (length notes) (length (writeAt notes cell d)) cells (sym (length-write-at notes cell d)) (within-rest (length notes) cell cells w))
+    (within-rest (length notes) cell cells w)) f (either-false-right (eqb cell n) (isIn n cells) off)
+    ∙ pick-either (λ (l : List ℕ). at l n ≡ at notes n) (lowest mask) (writeAt notes cell d) notes
+    (write-at-elsewhere notes cell d n (w 0 (omega arith) .0) (w 0 (omega arith) .1) f (either-false-left (eqb cell n) (isIn n cells) off)) refl
+
 -- ---- lengths stay, and notes stay notes
 
 pub length-strike-all : (notes : List ℕ) (d : ℕ) (cells : List ℕ) → length (strikeAll notes d cells) ≡ length notes
