@@ -1,6 +1,7 @@
 -- Opening a board of document 01: refusals 1, 19, 22 to 27, the fresh board, and what the lent memory holds afterwards.
 -- Assumes nothing.
 use Prim.Native.Nat.{ℕ, _%_}
+use mathlib.Core.Path.{_≡_}
 use mathlib.Core.Bool.{Bool}
 use mathlib.Core.List.{List}
 use lib.Dec.{eqb}
@@ -25,6 +26,12 @@ pub record Opened : Type 0 where
   pub journal : List ℕ
   pub checks : List ℕ
 
+-- a call answers `a` and leaves `j` in the journal and `c` in the check memory, as `o` says
+pub record Gives (o : Opened) (a : Answer) (j c : List ℕ) : Type 0 where
+  pub answer : a ≡ o .answer
+  pub journal : j ≡ o .journal
+  pub checks : c ≡ o .checks
+
 -- lent memory of zeros
 unfoldable pub noMoves : List ℕ
 noMoves = replicate journalBytes 0
@@ -43,6 +50,10 @@ turnedAway r = record { answer = answer r zeroBoard; journal = noMoves; checks =
 -- the fresh board, and memory of zeros
 unfoldable pub openedFresh : List Given → List ℕ → Opened
 openedFresh gs solution = record { answer = answer accepted (fresh gs solution); journal = noMoves; checks = noChecks }
+
+-- the answer to givens and a solution of the right lengths: 19, 22 to 27, else the fresh board
+unfoldable pub posed : List Given → List ℕ → Answer
+posed gs solution = let r = wellPosed gs solution in pick (isAccepted r) (answer accepted (fresh gs solution)) (answer r zeroBoard)
 
 -- number 1 of what is lent to opening and reopening: journal, check memory and solution have their lengths
 unfoldable pub lentLengths : List ℕ → List ℕ → List ℕ → Bool

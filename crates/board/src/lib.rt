@@ -2,6 +2,7 @@
 use puzzle::Refusal;
 
 pub mod cell;
+pub mod open;
 pub mod questions;
 pub mod value;
 
