@@ -1,7 +1,7 @@
 -- The loops over the peers of a cell: where a peer's note stands, and what a turn takes off each walk of specs/State over what is left of the list, `drop i ps`.
 -- Assumes nothing.
 use Prim.Native.Nat.{ℕ, zero, suc, _+_, _-_, _*_, _/_, _≤_, _<_, _^_}
-use mathlib.Core.Path.{_≡_, refl, sym, ap, subst, _∙_}
+use mathlib.Core.Path.{_≡_, refl, sym, ap, _∙_}
 use mathlib.Core.Bool.{Bool, true, false, not}
 use mathlib.Core.List.{List, [], _∷_}
 use native.Mathlib.Nat.{pow-suc, lt-of-lt-of-le, le-of-suc-le-suc, not-suc-le-zero}

@@ -10,9 +10,7 @@ use lib.Dec.{eqb}
 use lib.ListN.{length, getD, List·getD-eq-default}
 use Rattle.sudoku.specs.Tests.{pick, both, either}
 use Rattle.sudoku.proofs.Walks.{both-first, both-false-left}
-use Rattle.journal.specs.declared.DigitChange.{DigitChange}
 use Rattle.journal.specs.declared.DigitChange.the-variants.{Put, None}
-use Rattle.journal.specs.declared.Move.{Move}
 use Rattle.journal.specs.declared.Move.the-variants.{Place, Erase, WriteMark, StrikeMark}
 use Rattle.journal.specs.declared.Slot.{Slot}
 use Rattle.journal.specs.Bytes.{three}

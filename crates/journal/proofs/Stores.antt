@@ -5,7 +5,6 @@ use mathlib.Core.Path.{_≡_, refl, sym, _∙_}
 use mathlib.Core.List.{List, [], _∷_}
 use native.Mathlib.Omega.{arith}
 use borrow.Author.Tests.{le-leb, lt-leb}
-use lib.Dec.{leb}
 use lib.ListN.{length, set}
 use lib.Seq.{sets, sets-eq}
 use Rattle.sudoku.proofs.Walks.{pick-true, pick-false}

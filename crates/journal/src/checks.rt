@@ -7,7 +7,7 @@ use puzzle::index_of;
 use sudoku::in_range;
 use sudoku::wide;
 ghost use mathlib.Core.Path.{_≡_};
-ghost use Prim.Native.Nat.{_*_, _<_};
+ghost use Prim.Native.Nat.{_*_};
 ghost use Rattle.sudoku.specs.Tests.{bit};
 ghost use Rattle.journal.specs.Limits.{checkBytes};
 ghost use Rattle.journal.specs.Bytes.{laid, two as twoBytes};

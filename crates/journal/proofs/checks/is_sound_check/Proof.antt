@@ -1,6 +1,6 @@
 -- `journal::checks::is_sound_check` meets its contract. Past the end of the memory no check is sound.
 -- Assumes nothing.
-use mathlib.Core.Path.{_≡_, sym, ap, _∙_}
+use mathlib.Core.Path.{_∙_}
 use native.Mathlib.Omega.{arith}
 use borrow.Author.Needs.{needs}
 use Rattle.journal.specs.StoredChecks.{checkStart}

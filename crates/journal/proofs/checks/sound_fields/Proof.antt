@@ -1,6 +1,6 @@
 -- `journal::checks::sound_fields` meets its contract.
 -- Assumes nothing.
-use mathlib.Core.Path.{_≡_, sym, ap, _∙_}
+use mathlib.Core.Path.{sym, _∙_}
 use borrow.Author.Tests.{not-true, not-false, le-leb, lt-leb}
 use borrow.Author.Needs.{needs}
 use Rattle.sudoku.proofs.Walks.{both-first, both-false-left}

@@ -1,6 +1,5 @@
 -- `journal::checks::two` meets its contract: two bytes make a number below 65,536.
 -- Assumes nothing.
-use mathlib.Core.Path.{_≡_, sym, ap, _∙_}
 use borrow.Author.Needs.{needs}
 use Rattle.journal.specs.Bytes.{two}
 use Rattle.journal.proofs.checks.two.Statement.{statement}

@@ -1,6 +1,6 @@
 -- `journal::checks::verdict` meets its contract.
 -- Assumes nothing.
-use mathlib.Core.Path.{_≡_, sym, ap, _∙_}
+use mathlib.Core.Path.{sym, ap}
 use Rattle.sudoku.specs.Tests.{bit}
 use Rattle.journal.proofs.checks.verdict.Statement.{statement}
 use Rattle.journal.proofs.checks.verdict.Tie as tie

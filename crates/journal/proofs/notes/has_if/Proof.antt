@@ -1,7 +1,6 @@
 -- `journal::notes::has_if` meets its contract: it matters whether the mark stands only where the lowest bit of the mask is set.
 -- Assumes nothing.
-use mathlib.Core.Path.{_≡_, sym, ap, _∙_}
-use mathlib.Core.Bool.{not}
+use mathlib.Core.Path.{sym, _∙_}
 use borrow.Author.Tests.{eq-eqb, ne-eqb}
 use borrow.Author.Needs.{needs}
 use Rattle.sudoku.proofs.Walks.{either-left, either-second, not-is-true, not-is-false}

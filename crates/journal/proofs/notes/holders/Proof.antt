@@ -1,13 +1,10 @@
 -- `journal::notes::holders` meets its contract. The loop's invariant: the mask is that of the peers from i on.
 -- Assumes nothing.
 use Prim.Native.Nat.{_-_, _≤_, _<_}
-use Prim.Native.Nat.{_*_, _+_}
-use mathlib.Core.Path.{_≡_, refl, sym, ap, _∙_}
+use mathlib.Core.Path.{_≡_, sym, ap, _∙_}
 use native.Mathlib.Omega.{arith}
 use borrow.Author.Needs.{needs}
-use lib.ListN.{length, getD, drop}
-use Rattle.sudoku.specs.Tests.{bit}
-use Rattle.note.specs.Note.{contains}
+use lib.ListN.{drop}
 use Rattle.journal.specs.State.{holders}
 use Rattle.journal.proofs.PeerLoops.{peer-below, holders-turn, holders-end, holders-fit}
 use Rattle.journal.proofs.notes.holders.Statement.{statement}

@@ -1,6 +1,6 @@
 -- `journal::notes::lacks_if` meets its contract: it matters whether the mark is missing only where the lowest bit of the mask is set.
 -- Assumes nothing.
-use mathlib.Core.Path.{_≡_, sym, ap, _∙_}
+use mathlib.Core.Path.{sym, ap, _∙_}
 use mathlib.Core.Bool.{not}
 use borrow.Author.Tests.{eq-eqb, ne-eqb}
 use borrow.Author.Needs.{needs}

@@ -1,6 +1,6 @@
 -- `journal::notes::note_at` meets its contract: beyond the list there is nothing to read.
 -- Assumes nothing.
-use mathlib.Core.Path.{_≡_, sym, ap}
+use mathlib.Core.Path.{sym, ap}
 use native.Mathlib.Omega.{arith}
 use borrow.Author.Needs.{needs}
 use lib.ListN.{getD, List·getD-eq-default}

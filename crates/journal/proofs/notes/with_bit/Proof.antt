@@ -1,6 +1,6 @@
 -- `journal::notes::with_bit` meets its contract: the bit in front of a mask that is doubled.
 -- Assumes nothing.
-use mathlib.Core.Path.{_≡_, sym, ap, _∙_}
+use mathlib.Core.Path.{sym, ap, _∙_}
 use native.Mathlib.Omega.{arith}
 use borrow.Author.Needs.{needs}
 use Rattle.sudoku.specs.Tests.{bit}

@@ -1,6 +1,6 @@
 -- `journal::slots::digit_change` meets its contract, kind by kind.
 -- Assumes nothing.
-use mathlib.Core.Path.{_≡_, sym, ap, _∙_}
+use mathlib.Core.Path.{sym}
 use Rattle.journal.proofs.SlotLaws.{change-place, change-erase, change-none}
 use Rattle.journal.proofs.slots.digit_change.Statement.{statement}
 use Rattle.journal.proofs.slots.digit_change.Tie as tie

@@ -1,6 +1,6 @@
 -- `journal::slots::is_given` meets its contract: beyond the list there is nothing to read.
 -- Assumes nothing.
-use mathlib.Core.Path.{_≡_, sym, ap}
+use mathlib.Core.Path.{sym, ap}
 use mathlib.Core.Bool.{false}
 use native.Mathlib.Omega.{arith}
 use borrow.Author.Needs.{needs}

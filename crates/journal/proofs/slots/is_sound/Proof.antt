@@ -1,6 +1,6 @@
 -- `journal::slots::is_sound` meets its contract, kind by kind.
 -- Assumes nothing.
-use mathlib.Core.Path.{_≡_, sym, ap, _∙_}
+use mathlib.Core.Path.{sym, _∙_}
 use borrow.Author.Tests.{not-true, not-false}
 use borrow.Author.Needs.{needs}
 use Rattle.journal.proofs.SlotLaws.{sound-not-free, sound-place, sound-erase, sound-write, sound-strike, sound-none}

@@ -1,6 +1,6 @@
 -- `journal::slots::move_of` meets its contract, kind by kind.
 -- Assumes nothing.
-use mathlib.Core.Path.{_≡_, sym, ap, _∙_}
+use mathlib.Core.Path.{sym}
 use Rattle.journal.proofs.SlotLaws.{move-place, move-erase, move-write, move-strike}
 use Rattle.journal.proofs.slots.move_of.Statement.{statement}
 use Rattle.journal.proofs.slots.move_of.Tie as tie

@@ -1,6 +1,5 @@
 -- `journal::slots::slot_at` meets its contract. A slot past the end of the journal is all zero.
 -- Assumes nothing.
-use mathlib.Core.Path.{_≡_, sym, _∙_}
 use native.Mathlib.Omega.{arith}
 use borrow.Author.Needs.{needs}
 use Rattle.journal.specs.Slots.{slotStart, slotAt}
