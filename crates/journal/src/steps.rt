@@ -54,3 +54,26 @@ pub fn retaken(c: Counts) -> Counts
         standing: c.standing + 1,
     }
 }
+
+// The three steps on counts that are lent.
+
+// Records a move.
+pub fn record(c: &mut Counts)
+    ensures { λ _. ⌜ now (c .exit) ≡ recordedOf (now (c .entry)) ⌝ }
+{
+    *c = recorded(*c);
+}
+
+// Takes a move back.
+pub fn take_back(c: &mut Counts)
+    ensures { λ _. ⌜ now (c .exit) ≡ takenBack (now (c .entry)) ⌝ }
+{
+    *c = taken_back(*c);
+}
+
+// Retakes a move.
+pub fn retake(c: &mut Counts)
+    ensures { λ _. ⌜ now (c .exit) ≡ retakenOf (now (c .entry)) ⌝ }
+{
+    *c = retaken(*c);
+}
