@@ -7,7 +7,7 @@ use puzzle::Layout;
 use puzzle::given_bytes::mark_givens;
 use puzzle::given_bytes::put_givens;
 use puzzle::proof::flat;
-use puzzle::proof::refusal;
+use puzzle::answer::refusal;
 use puzzle::proof::rows_of;
 use puzzle::proof::well_posed;
 use sudoku::CELLS;
