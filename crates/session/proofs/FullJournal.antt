@@ -4,46 +4,32 @@
 use Prim.Native.Nat.{ℕ, zero, suc, _+_, _-_, _*_, _≤_, _<_, min}
 use mathlib.Core.Path.{_≡_, refl, sym, ap, _∙_}
 use mathlib.Core.Bool.{Bool, true, false, not}
-use mathlib.Core.List.{List, [], _∷_, _++_, map, append-assoc}
+use mathlib.Core.List.{List, [], _∷_, _++_, map}
 use native.Mathlib.Omega.{arith}
 use borrow.Author.Tests.{le-leb, lt-leb, ne-eqb}
-use lib.Dec.{leb, eqb}
-use lib.ListN.{length, take, drop, getD, replicate, length-replicate}
-use lib.Seq.{sets-eq, length-sets, getD-append-add, length-take-le}
-use Rattle.sudoku.specs.Tests.{pick, both, every, first, _⇒_}
+use lib.Dec.{eqb}
+use lib.ListN.{length, replicate, length-replicate}
+use Rattle.sudoku.specs.Tests.{pick, both, first, _⇒_}
 use Rattle.puzzle.specs.Refusals.{refusal, accepted}
 use Rattle.journal.specs.declared.Move.{Move}
-use Rattle.journal.specs.declared.Move.the-variants.{Place, Erase, WriteMark, StrikeMark}
+use Rattle.journal.specs.declared.Move.the-variants.{WriteMark, StrikeMark}
 use Rattle.journal.specs.declared.Slot.{Slot}
-use Rattle.journal.specs.Limits.{maxMoves, maxChecks, slotBytes, journalBytes}
-use Rattle.journal.specs.Bytes.{over, three}
-use Rattle.journal.specs.Slots.{slotAt, slotStart, bytesOf}
+use Rattle.journal.specs.Limits.{maxMoves, slotBytes, journalBytes}
+use Rattle.journal.specs.Bytes.{over}
+use Rattle.journal.specs.Slots.{slotAt, bytesOf}
 use Rattle.journal.specs.Counts.{counts, recorded}
-use Rattle.journal.specs.State.{State, opening, withNotes}
+use Rattle.journal.specs.State.{opening, withNotes}
 use Rattle.board.specs.declared.Board.{Board}
 use Rattle.board.specs.Board.{stateOf, boardOf, isBoard, moved}
 use Rattle.board.specs.declared.Answer.{Answer}
 use Rattle.board.specs.Open.{noChecks, noMoves, answer}
 use Rattle.play.specs.Play.{Played, played, playOf, recordMove, moveTests, lentTests, callTests, undoOf, undone, canTakeBack, slotRefusal}
 use Rattle.session.specs.declared.Call.{Call}
-use Rattle.session.specs.declared.Call.the-variants.{Make, Undo, Redo, Check}
-use Rattle.session.specs.Session.{Session, Said, Called, called, callOf, answers, started}
+use Rattle.session.specs.declared.Call.the-variants.{Undo}
+use Rattle.session.specs.Session.{Session, Said, called, callOf, answers, started}
 use Rattle.session.specs.Positions.{solutionG, givensE, openG, numbers, writeMark, strikeMark, inTurn}
+use Rattle.journal.proofs.Memory.{length-over, bytes-length, slot-written}
 use Rattle.session.proofs.Computing.{computing}
-
--- ---- bytes laid over memory
-
-length-over : (l : List ℕ) (start : ℕ) (bytes : List ℕ) → start + length bytes ≤ length l → length (over l start bytes) ≡ length l
-unfolding over
-length-over l start bytes h = ap length (sym (sets-eq bytes l start h)) ∙ length-sets l start bytes
-
-getD-over : (l : List ℕ) (start : ℕ) (bytes : List ℕ) (k : ℕ) → start ≤ length l
-    → getD (over l start bytes) (start + k) 0 ≡ getD (bytes ++ drop (start + length bytes) l) k 0
-unfolding over
-getD-over l start bytes k h =
-    ap (λ (m : List ℕ). getD m (start + k) 0) (append-assoc (take start l) bytes (drop (start + length bytes) l))
-    ∙ ap (λ (n : ℕ). getD (take start l ++ (bytes ++ drop (start + length bytes) l)) (n + k) 0) (sym (length-take-le start l h))
-    ∙ getD-append-add (take start l) (bytes ++ drop (start + length bytes) l) k 0
 
 -- ---- a board with mark 1 written at (1,1) or not, and as many moves made as stand
 
@@ -68,10 +54,12 @@ play-by : (b : Board) (journal : List ℕ) (m : Move) (n : ℕ)
 unfolding playOf callTests lentTests first pick
 play-by b journal m n l ok e =
     ap (λ (k : ℕ). pick (eqb k 0) (recordMove b journal m) (played (refusal k 0 0) b journal))
-    ((λ i. first ((not (eqb (l i) journalBytes) ⇒ 1) ∷ (not (ok i) ⇒ 2) ∷ (moveTests (stateOf b) m ++ ((eqb (b .standing) maxMoves ⇒ 15) ∷ [])))) ∙ e)
+    ((λ i. first
+    ((not (eqb (l i) journalBytes) ⇒ 1) ∷ (not (ok i) ⇒ 2) ∷ (moveTests (stateOf b) m ++ ((eqb (b .standing) maxMoves ⇒ 15) ∷ []))))
+    ∙ e)
 
 -- one move more, below the limit
-recorded-next : (n : ℕ) → n < maxMoves → recorded (counts n n) ≡ counts (suc n) (suc n)
+recorded-next : (n : ℕ) → n < maxMoves → recorded (counts n n) ≡ counts (n + 1) (n + 1)
 unfolding recorded pick
 recorded-next n h =
     (λ i. pick (lt-leb maxMoves n h i) (counts n n) (counts (min n n + 1) (min n n + 1)))
@@ -82,49 +70,23 @@ not-full n h = ne-eqb n maxMoves (λ e. absurd (omega (arith, e)))
 
 -- ---- a turn: the mark written, then struck
 
--- the slots of the two moves
-abbrev writeSlot : List ℕ
-writeSlot = 4 ∷ 1 ∷ 1 ∷ 1 ∷ 0 ∷ 0 ∷ 0 ∷ 0 ∷ []
-
-abbrev strikeSlot : List ℕ
-strikeSlot = 5 ∷ 1 ∷ 1 ∷ 1 ∷ 0 ∷ 0 ∷ 0 ∷ 0 ∷ []
-
-abbrev strike : Slot
-strike = record { kind = 5; row = 1; column = 1; digit = 1; before = 0; struck = 0 }
+-- the slots of the two moves: kind 4 and kind 5
+abbrev slot : ℕ → Slot
+slot kind = record { kind = kind; row = 1; column = 1; digit = 1; before = 0; struck = 0 }
 
 written : (n : ℕ) (journal : List ℕ) → n < maxMoves → length journal ≡ journalBytes
-    → playOf (withNote 0 n) journal (WriteMark 1 1 1) ≡ played accepted (withNote 2 (suc n)) (over journal (slotBytes * n) writeSlot)
+    → playOf (withNote 0 n) journal (WriteMark 1 1 1) ≡ played accepted (withNote 2 (n + 1)) (over journal (slotBytes * n) (bytesOf (slot 4)))
 unfolding computing withNote
 written n journal h l =
     play-by (withNote 0 n) journal (WriteMark 1 1 1) 0 l (empty-is-board n (omega arith)) (λ i. pick (not-full n h i) 15 0)
-    ∙ (λ i. played accepted (moved (withNote 2 n) (stateOf (withNote 2 n)) (recorded-next n h i)) (over journal (slotBytes * n) writeSlot))
+    ∙ (λ i. played accepted (moved (withNote 2 n) (stateOf (withNote 2 n)) (recorded-next n h i)) (over journal (slotBytes * n) (bytesOf (slot 4))))
 
 struck : (n : ℕ) (journal : List ℕ) → n < maxMoves → length journal ≡ journalBytes
-    → playOf (withNote 2 n) journal (StrikeMark 1 1 1) ≡ played accepted (withNote 0 (suc n)) (over journal (slotBytes * n) strikeSlot)
+    → playOf (withNote 2 n) journal (StrikeMark 1 1 1) ≡ played accepted (withNote 0 (n + 1)) (over journal (slotBytes * n) (bytesOf (slot 5)))
 unfolding computing withNote
 struck n journal h l =
     play-by (withNote 2 n) journal (StrikeMark 1 1 1) 0 l (marked-is-board n (omega arith)) (λ i. pick (not-full n h i) 15 0)
-    ∙ (λ i. played accepted (moved (withNote 0 n) (stateOf (withNote 0 n)) (recorded-next n h i)) (over journal (slotBytes * n) strikeSlot))
-
--- a byte of the strike's slot where it was laid, and the slot read
-module _ (l : List ℕ) (n : ℕ) (h : slotBytes * n ≤ length l) where
-  byte-of-strike : (k at : ℕ) → at ≡ slotBytes * n + k
-      → getD (over l (slotBytes * n) strikeSlot) at 0 ≡ getD (strikeSlot ++ drop (slotBytes * n + length strikeSlot) l) k 0
-  byte-of-strike k at e =
-      ap (λ (m : ℕ). getD (over l (slotBytes * n) strikeSlot) m 0) e ∙ getD-over l (slotBytes * n) strikeSlot k h
-
-  read-strike : slotAt (over l (slotBytes * n) strikeSlot) (suc n) ≡ strike
-  unfolding slotAt slotStart three
-  read-strike = λ i. record {
-    kind = byte-of-strike 0 (slotBytes * (suc n - 1)) (omega arith) i;
-    row = byte-of-strike 1 (slotBytes * (suc n - 1) + 1) (omega arith) i;
-    column = byte-of-strike 2 (slotBytes * (suc n - 1) + 2) (omega arith) i;
-    digit = byte-of-strike 3 (slotBytes * (suc n - 1) + 3) (omega arith) i;
-    before = byte-of-strike 4 (slotBytes * (suc n - 1) + 4) (omega arith) i;
-    struck =
-        three (byte-of-strike 5 (slotBytes * (suc n - 1) + 5) (omega arith) i) (byte-of-strike 6 (slotBytes * (suc n - 1) + 6) (omega arith) i)
-        (byte-of-strike 7 (slotBytes * (suc n - 1) + 7) (omega arith) i);
-  }
+    ∙ (λ i. played accepted (moved (withNote 0 n) (stateOf (withNote 0 n)) (recorded-next n h i)) (over journal (slotBytes * n) (bytesOf (slot 5))))
 
 -- a session with this board and journal, no check stored, and the numbers that calls answer from there
 unfoldable with : Board → List ℕ → Session
@@ -138,29 +100,31 @@ from p calls = p .answer .refusal .number ∷ numbersFrom (with (p .answer .boar
 
 -- the journal after a turn
 unfoldable turned : ℕ → List ℕ → List ℕ
-turned n journal = over (over journal (slotBytes * n) writeSlot) (slotBytes * suc n) strikeSlot
+turned n journal = over (over journal (slotBytes * n) (bytesOf (slot 4))) (slotBytes * (n + 1)) (bytesOf (slot 5))
 
-module _ (n : ℕ) (journal : List ℕ) (h : suc n < maxMoves) (l : length journal ≡ journalBytes) where
-  after-write : length (over journal (slotBytes * n) writeSlot) ≡ journalBytes
-  after-write = length-over journal (slotBytes * n) writeSlot (omega (arith, l)) ∙ l
+module _ (n : ℕ) (journal : List ℕ) (h : n + 1 < maxMoves) (l : length journal ≡ journalBytes) where
+  after-write : length (over journal (slotBytes * n) (bytesOf (slot 4))) ≡ journalBytes
+  after-write = length-over journal (slotBytes * n) (bytesOf (slot 4)) (omega (arith, l, bytes-length (slot 4))) ∙ l
 
   after-strike : length (turned n journal) ≡ journalBytes
   unfolding turned
   after-strike =
-      length-over (over journal (slotBytes * n) writeSlot) (slotBytes * suc n) strikeSlot (omega (arith, after-write)) ∙ after-write
+      length-over (over journal (slotBytes * n) (bytesOf (slot 4))) (slotBytes * (n + 1)) (bytesOf (slot 5))
+      (omega (arith, after-write, bytes-length (slot 5)))
+      ∙ after-write
 
   -- both are accepted, and the board is as it was but for its counts
   turn : (calls : List Call) → numbersFrom (with (withNote 0 n) journal) (writeMark 1 1 1 ∷ strikeMark 1 1 1 ∷ calls)
-      ≡ 0 ∷ 0 ∷ numbersFrom (with (withNote 0 (suc (suc n))) (turned n journal)) calls
+      ≡ 0 ∷ 0 ∷ numbersFrom (with (withNote 0 (n + 1 + 1)) (turned n journal)) calls
   unfolding numbersFrom with from answers callOf called turned
   turn calls =
       ap (λ (p : Played). from p (strikeMark 1 1 1 ∷ calls)) (written n journal (omega arith) l)
-      ∙ ap (λ (p : Played). 0 ∷ from p calls) (struck (suc n) (over journal (slotBytes * n) writeSlot) h after-write)
+      ∙ ap (λ (p : Played). 0 ∷ from p calls) (struck (n + 1) (over journal (slotBytes * n) (bytesOf (slot 4))) h after-write)
 
   -- the latest slot is the strike's
-  latest : slotAt (turned n journal) (suc (suc n)) ≡ strike
+  latest : slotAt (turned n journal) (n + 1 + 1) ≡ slot 5
   unfolding turned
-  latest = read-strike (over journal (slotBytes * n) writeSlot) (suc n) (omega (arith, after-write))
+  latest = slot-written (over journal (slotBytes * n) (bytesOf (slot 4))) (n + 1) (slot 5) (omega (arith, after-write)) (omega arith)
 
 -- ---- the journal full: written again; undone, struck
 
@@ -173,7 +137,7 @@ module _ (journal : List ℕ) (l : length journal ≡ journalBytes) where
   unfolding computing withNote
   written-again = play-by (withNote 0 maxMoves) journal (WriteMark 1 1 1) 15 l (empty-is-board maxMoves (omega arith)) refl
 
-  undo-full : slotAt journal maxMoves ≡ strike → undoOf (withNote 0 maxMoves) journal ≡ answer accepted markBack
+  undo-full : slotAt journal maxMoves ≡ slot 5 → undoOf (withNote 0 maxMoves) journal ≡ answer accepted markBack
   unfolding computing withNote markBack
   undo-full e = λ i.
       let n : ℕ = first
@@ -189,7 +153,7 @@ module _ (journal : List ℕ) (l : length journal ≡ journalBytes) where
   unfolding computing markBack
   struck-again = play-by markBack journal (StrikeMark 1 1 1) 0 l refl refl
 
-  full : slotAt journal maxMoves ≡ strike
+  full : slotAt journal maxMoves ≡ slot 5
       → numbersFrom (with (withNote 0 maxMoves) journal) (writeMark 1 1 1 ∷ Undo ∷ strikeMark 1 1 1 ∷ []) ≡ 15 ∷ 0 ∷ 0 ∷ []
   unfolding numbersFrom with from answers callOf called recordMove
   full e =
@@ -204,7 +168,7 @@ answered zero = 15 ∷ 0 ∷ 0 ∷ []
 answered (suc m) = 0 ∷ 0 ∷ answered m
 
 -- m turns are left after n moves. Where none is left, the latest slot is the strike's
-turns : (m n : ℕ) (journal : List ℕ) → n + 2 * m ≡ maxMoves → length journal ≡ journalBytes → (m ≡ 0 → slotAt journal n ≡ strike)
+turns : (m n : ℕ) (journal : List ℕ) → n + 2 * m ≡ maxMoves → length journal ≡ journalBytes → (m ≡ 0 → slotAt journal n ≡ slot 5)
     → numbersFrom (with (withNote 0 n) journal) (inTurn m ++ writeMark 1 1 1 ∷ Undo ∷ strikeMark 1 1 1 ∷ []) ≡ answered m
 unfolding inTurn answered
 turns zero n journal s l e =
@@ -216,7 +180,7 @@ turns zero n journal s l e =
 turns (suc m) n journal s l e =
     turn n journal (omega (arith, s)) l (inTurn m ++ writeMark 1 1 1 ∷ Undo ∷ strikeMark 1 1 1 ∷ [])
     ∙ ap (λ (k : List ℕ). 0 ∷ 0 ∷ k)
-    (turns m (suc (suc n)) (turned n journal) (omega (arith, s)) (after-strike n journal (omega (arith, s)) l) (λ _. latest n journal (omega (arith, s)) l))
+    (turns m (n + 1 + 1) (turned n journal) (omega (arith, s)) (after-strike n journal (omega (arith, s)) l) (λ _. latest n journal (omega (arith, s)) l))
 
 opened : started (openG givensE) ≡ with (withNote 0 0) noMoves
 unfolding computing with withNote
