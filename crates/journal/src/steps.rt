@@ -77,3 +77,31 @@ pub fn retake(c: &mut Counts)
 {
     *c = retaken(*c);
 }
+// The counts after a step: they are lent to it and come back. Whoever has counts of its own goes through these.
+
+// The counts after a move is recorded.
+pub fn after_record(c: Counts) -> Counts
+    ensures { λ r. ⌜ r ≡ recordedOf c ⌝ }
+{
+    let mut counts = c;
+    record(&mut counts);
+    counts
+}
+
+// The counts after a move is taken back.
+pub fn after_take_back(c: Counts) -> Counts
+    ensures { λ r. ⌜ r ≡ takenBack c ⌝ }
+{
+    let mut counts = c;
+    take_back(&mut counts);
+    counts
+}
+
+// The counts after a move is retaken.
+pub fn after_retake(c: Counts) -> Counts
+    ensures { λ r. ⌜ r ≡ retakenOf c ⌝ }
+{
+    let mut counts = c;
+    retake(&mut counts);
+    counts
+}
