@@ -28,7 +28,9 @@ abbrev μ-loop : tie.MeasureT-loop
 μ-loop digits digit n₀ cell₀ n cell = 82 - cell
 
 loop-holds : tie.Need-loop-holds Inv-loop μ-loop
-loop-holds c = (omega arith, omega arith, omega arith, sym (zero-add (count (holds (c .args .digits .now) (c .args .digit)) 81 1)))
+loop-holds c =
+    let a = c .args in
+    (omega arith, omega arith, omega arith, sym (zero-add (count (holds (a .digits .now) (a .digit)) 81 1)))
 
 digit-at-requires : tie.Need-digit-at-requires Inv-loop μ-loop
 digit-at-requires c κs = search needs
@@ -44,17 +46,33 @@ loop-less c = search needs
 
 loop-again : tie.Need-loop-again Inv-loop μ-loop
 loop-again c =
-    let f = holds (c .before .before .before .before .args .digits .now) (c .before .before .before .before .args .digit) in
-    let u : c .before .before .before .loop .cell < 82 = omega arith in
+    let a = c .before .before .before .before .args in
+    let turn = c .before .before .before .loop in
+    let f = holds (a .digits .now) (a .digit) in
+    let u : turn .cell < 82 = omega arith in
     ⊎-elim
-    (λ w. (omega arith, omega arith, omega arith, rw (w .1) (c .before .before .before .loop .inv .3 ∙ count-more f 82 (c .before .before .before .loop .cell) (c .before .before .before .loop .n) u (eq-eqb _ _ (sym (c .before .digit-at .ensures) ∙ w .0 .taken)))))
-    (λ w. (omega arith, omega arith, omega arith, rw (w .1, ← count-skips f 82 (c .before .before .before .loop .cell) u (ne-eqb _ _ (λ e. w .0 .left (c .before .digit-at .ensures ∙ e)))) (c .before .before .before .loop .inv .3)))
+    (λ w. (
+      omega arith,
+      omega arith,
+      omega arith,
+      rw (w .1)
+          (turn .inv .3 ∙ count-more f 82 (turn .cell) (turn .n) u (eq-eqb _ _ (sym (c .before .digit-at .ensures) ∙ w .0 .taken))),
+    ))
+    (λ w. (
+      omega arith,
+      omega arith,
+      omega arith,
+      rw
+          (w .1, ← count-skips f 82 (turn .cell) u (ne-eqb _ _ (λ e. w .0 .left (c .before .digit-at .ensures ∙ e)))) (turn .inv .3),
+    ))
     (c .if1 .came)
 
 returns : tie.Need-returns Inv-loop μ-loop
 returns c =
-    let f = holds (c .before .before .args .digits .now) (c .before .before .args .digit) in
-    (sym (c .before .loop .inv .3 ∙ rw (count-all f 82 (c .before .loop .cell) (omega arith)) (add-zero (c .before .loop .n))), omega arith)
+    let a = c .before .before .args in
+    let turn = c .before .loop in
+    let f = holds (a .digits .now) (a .digit) in
+    (sym (turn .inv .3 ∙ rw (count-all f 82 (turn .cell) (omega arith)) (add-zero (turn .n))), omega arith)
 
 pub cells-holding-spec : {M : Type 1} → statement M
 cells-holding-spec =

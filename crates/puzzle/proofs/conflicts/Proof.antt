@@ -15,7 +15,8 @@ digit-at-requires c κs = search needs
 returns : tie.Need-returns
 unfolding conflicts holdsDigit
 returns c =
-    sym (both-false-left (holdsDigit (c .before .before .args .digits .now) (c .before .before .args .cell)) (isHeld (c .before .before .args .digits .now) (at (c .before .before .args .digits .now) (c .before .before .args .cell)) (peersOf (c .before .before .args .cell)))
+    let a = c .before .before .args in
+    sym (both-false-left (holdsDigit (a .digits .now) (a .cell)) (isHeld (a .digits .now) (at (a .digits .now) (a .cell)) (peersOf (a .cell)))
     (not-is-false _ (eq-eqb _ _ (sym (c .before .digit-at .ensures) ∙ c .if1 .taken))))
 
 peers-requires : tie.Need-peers-requires
@@ -27,8 +28,9 @@ is-held-requires c κs = search needs
 returns-2 : tie.Need-returns-2
 unfolding conflicts holdsDigit
 returns-2 c =
+    let a = c .before .before .before .before .args in
     rw (c .is-held .ensures, c .before .peers .ensures, c .before .before .before .digit-at .ensures)
-    (sym (both-first (holdsDigit (c .before .before .before .before .args .digits .now) (c .before .before .before .before .args .cell)) (isHeld (c .before .before .before .before .args .digits .now) (at (c .before .before .before .before .args .digits .now) (c .before .before .before .before .args .cell)) (peersOf (c .before .before .before .before .args .cell)))
+    (sym (both-first (holdsDigit (a .digits .now) (a .cell)) (isHeld (a .digits .now) (at (a .digits .now) (a .cell)) (peersOf (a .cell)))
     (not-is-true _ (ne-eqb _ _ (λ e. c .before .before .if1 .left (c .before .before .before .digit-at .ensures ∙ e))))))
 
 pub conflicts-spec : {M : Type 1} → statement M

@@ -31,8 +31,10 @@ digit-at-requires c κs = search needs
 
 returns : tie.Need-returns Inv-loop μ-loop
 returns c =
-    sym (c .before .before .before .before .loop .inv .1 ∙ held-here (c .before .before .before .before .before .args .digits .now) (c .before .before .before .before .before .args .digit) (c .before .before .before .before .before .args .t3) (c .before .before .before .before .loop .i) (omega arith)
-    (ap (at (c .before .before .before .before .before .args .digits .now)) (sym (c .before .before .wide .ensures .0)) ∙ sym (c .before .digit-at .ensures) ∙ c .if1 .taken))
+    let a = c .before .before .before .before .before .args in
+    let turn = c .before .before .before .before .loop in
+    sym (turn .inv .1 ∙ held-here (a .digits .now) (a .digit) (a .t3) (turn .i) (omega arith)
+    (ap (at (a .digits .now)) (sym (c .before .before .wide .ensures .0)) ∙ sym (c .before .digit-at .ensures) ∙ c .if1 .taken))
 
 add-i : tie.Need-add-i Inv-loop μ-loop
 add-i c = search needs
@@ -41,14 +43,19 @@ loop-less : tie.Need-loop-less Inv-loop μ-loop
 loop-less c = search needs
 
 loop-again : tie.Need-loop-again Inv-loop μ-loop
-loop-again c = (
-  omega arith,
-  c .before .before .before .before .loop .inv .1 ∙ held-later (c .before .before .before .before .before .args .digits .now) (c .before .before .before .before .before .args .digit) (c .before .before .before .before .before .args .t3) (c .before .before .before .before .loop .i) (omega arith)
-      (λ e. c .if1 .left (c .before .digit-at .ensures ∙ ap (at (c .before .before .before .before .before .args .digits .now)) (c .before .before .wide .ensures .0) ∙ e)),
-)
+loop-again c =
+    let a = c .before .before .before .before .before .args in
+    let turn = c .before .before .before .before .loop in (
+      omega arith,
+      turn .inv .1 ∙ held-later (a .digits .now) (a .digit) (a .t3) (turn .i) (omega arith)
+          (λ e. c .if1 .left (c .before .digit-at .ensures ∙ ap (at (a .digits .now)) (c .before .before .wide .ensures .0) ∙ e)),
+    )
 
 returns-2 : tie.Need-returns-2 Inv-loop μ-loop
-returns-2 c = sym (c .before .loop .inv .1 ∙ held-nowhere (c .before .before .args .digits .now) (c .before .before .args .digit) (c .before .before .args .t3) (c .before .loop .i) (omega arith))
+returns-2 c =
+    let a = c .before .before .args in
+    let turn = c .before .loop in
+    sym (turn .inv .1 ∙ held-nowhere (a .digits .now) (a .digit) (a .t3) (turn .i) (omega arith))
 
 pub is-held-spec : {M : Type 1} → statement M
 is-held-spec =

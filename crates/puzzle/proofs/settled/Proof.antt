@@ -17,18 +17,23 @@ is-full-requires c κs = search needs
 
 returns-2 : tie.Need-returns-2
 unfolding settled
-returns-2 c = sym
-    (either-second (c .before .before .before .args .solved) _ (c .before .before .if1 .left)
-    ∙ both-false-left (isFull (c .before .before .before .args .digits .now)) (isConsistent (c .before .before .before .args .digits .now)) (sym (c .before .is-full .ensures) ∙ not-true _ (c .if2 .taken)))
+returns-2 c =
+    let a = c .before .before .before .args in
+    sym
+    (either-second (a .solved) _ (c .before .before .if1 .left)
+    ∙ both-false-left (isFull (a .digits .now)) (isConsistent (a .digits .now)) (sym (c .before .is-full .ensures) ∙ not-true _ (c .if2 .taken)))
 
 is-consistent-requires : tie.Need-is-consistent-requires
 is-consistent-requires c κs = search needs
 
 returns-3 : tie.Need-returns-3
 unfolding settled
-returns-3 c = c .is-consistent .ensures
-    ∙ sym (either-second (c .before .before .before .before .args .solved) _ (c .before .before .before .if1 .left)
-    ∙ both-first (isFull (c .before .before .before .before .args .digits .now)) (isConsistent (c .before .before .before .before .args .digits .now)) (sym (c .before .before .is-full .ensures) ∙ not-false _ (c .before .if2 .left)))
+returns-3 c =
+    let a = c .before .before .before .before .args in
+    c .is-consistent .ensures
+    ∙ sym (either-second (a .solved) _ (c .before .before .before .if1 .left)
+    ∙ both-first (isFull (a .digits .now)) (isConsistent (a .digits .now))
+    (sym (c .before .before .is-full .ensures) ∙ not-false _ (c .before .if2 .left)))
 
 pub settled-spec : {M : Type 1} → statement M
 settled-spec =

@@ -42,7 +42,10 @@ given-from-requires : tie.Need-given-from-requires
 given-from-requires c κs = search needs
 
 returns : tie.Need-returns
-returns c = c .given-from .ensures ∙ triple-past (c .before .before .before .before .before .args .bytes .now) (c .before .before .before .before .before .args .i) (c .before .if1 .taken) ∙ told (c .before .before .before .before .before .args .bytes .now) (c .before .before .before .before .before .args .i) (c .before .before .enum-told .given .1)
+returns c =
+    let a = c .before .before .before .before .before .args in
+    c .given-from .ensures ∙ triple-past (a .bytes .now) (a .i) (c .before .if1 .taken) ∙ told (a .bytes .now) (a .i)
+    (c .before .before .enum-told .given .1)
 
 mul-given-from : tie.Need-mul-given-from
 mul-given-from c = search needs
@@ -57,7 +60,10 @@ given-from-requires-3 : tie.Need-given-from-requires-3
 given-from-requires-3 c κs = search needs
 
 returns-2 : tie.Need-returns-2
-returns-2 c = c .given-from3 .ensures ∙ item-past (c .before .before .before .before .before .args .bytes .now) (c .before .before .before .before .before .args .i) (c .before .if2 .taken) ∙ told (c .before .before .before .before .before .args .bytes .now) (c .before .before .before .before .before .args .i) (c .before .before .enum-told2 .given .1)
+returns-2 c =
+    let a = c .before .before .before .before .before .args in
+    c .given-from3 .ensures ∙ item-past (a .bytes .now) (a .i) (c .before .if2 .taken) ∙ told (a .bytes .now) (a .i)
+    (c .before .before .enum-told2 .given .1)
 
 mul-given-from-2 : tie.Need-mul-given-from-2
 mul-given-from-2 c = search needs
@@ -69,10 +75,14 @@ given-from-requires-4 : tie.Need-given-from-requires-4
 given-from-requires-4 c κs = search needs
 
 returns-3 : tie.Need-returns-3
-returns-3 c = c .given-from2 .ensures ∙ triple (c .before .before .before .before .before .args .bytes .now) (c .before .before .before .before .before .args .i) ∙ told (c .before .before .before .before .before .args .bytes .now) (c .before .before .before .before .before .args .i) (c .before .before .enum-told .given .1)
+returns-3 c =
+    let a = c .before .before .before .before .before .args in
+    c .given-from2 .ensures ∙ triple (a .bytes .now) (a .i) ∙ told (a .bytes .now) (a .i) (c .before .before .enum-told .given .1)
 
 returns-4 : tie.Need-returns-4
-returns-4 c = c .given-from4 .ensures ∙ item (c .before .before .before .before .before .args .bytes .now) (c .before .before .before .before .before .args .i) ∙ told (c .before .before .before .before .before .args .bytes .now) (c .before .before .before .before .before .args .i) (c .before .before .enum-told2 .given .1)
+returns-4 c =
+    let a = c .before .before .before .before .before .args in
+    c .given-from4 .ensures ∙ item (a .bytes .now) (a .i) ∙ told (a .bytes .now) (a .i) (c .before .before .enum-told2 .given .1)
 
 pub given-at-spec : {M : Type 1} → statement M
 given-at-spec =

@@ -20,7 +20,9 @@ abbrev μ-loop : tie.MeasureT-loop
 
 loop-holds : tie.Need-loop-holds Inv-loop μ-loop
 unfolding givensIn
-loop-holds c = (omega arith, ascending-walk (givenIn (c .before .args .layout) (c .before .args .bytes .now)) (c .before .args .count))
+loop-holds c =
+    let a = c .before .args in
+    (omega arith, ascending-walk (givenIn (a .layout) (a .bytes .now)) (a .count))
 
 sub-given-at : tie.Need-sub-given-at Inv-loop μ-loop
 sub-given-at c = search needs
@@ -36,8 +38,12 @@ precedes-requires c κs = search needs
 
 returns : tie.Need-returns Inv-loop μ-loop
 returns c =
-    sym (c .before .before .before .before .before .loop .inv .1 ∙ every-fails (inOrder (givenIn (c .before .before .before .before .before .before .before .args .layout) (c .before .before .before .before .before .before .before .args .bytes .now))) (c .before .before .before .before .before .before .before .args .count) (c .before .before .before .before .before .loop .i) (c .before .before .before .before .loop-test .taken)
-    (sym (λ j. precedes (c .before .before .before .given-at .ensures j) (c .before .before .given-at2 .ensures j)) ∙ sym (c .before .precedes .ensures) ∙ not-true _ (c .if1 .taken)))
+    let a = c .before .before .before .before .before .before .before .args in
+    let turn = c .before .before .before .before .before .loop in
+    sym (turn .inv .1 ∙ every-fails (inOrder (givenIn (a .layout) (a .bytes .now))) (a .count) (turn .i)
+    (c .before .before .before .before .loop-test .taken)
+    (sym (λ j. precedes (c .before .before .before .given-at .ensures j) (c .before .before .given-at2 .ensures j)) ∙ sym
+    (c .before .precedes .ensures) ∙ not-true _ (c .if1 .taken)))
 
 add-i : tie.Need-add-i Inv-loop μ-loop
 add-i c = search needs
@@ -46,14 +52,21 @@ loop-less : tie.Need-loop-less Inv-loop μ-loop
 loop-less c = search needs
 
 loop-again : tie.Need-loop-again Inv-loop μ-loop
-loop-again c = (
-  omega arith,
-  c .before .before .before .before .before .loop .inv .1 ∙ every-more (inOrder (givenIn (c .before .before .before .before .before .before .before .args .layout) (c .before .before .before .before .before .before .before .args .bytes .now))) (c .before .before .before .before .before .before .before .args .count) (c .before .before .before .before .before .loop .i) (c .before .before .before .before .loop-test .taken)
-      (sym (λ j. precedes (c .before .before .before .given-at .ensures j) (c .before .before .given-at2 .ensures j)) ∙ sym (c .before .precedes .ensures) ∙ not-false _ (c .if1 .left)),
-)
+loop-again c =
+    let a = c .before .before .before .before .before .before .before .args in
+    let turn = c .before .before .before .before .before .loop in (
+      omega arith,
+      turn .inv .1 ∙ every-more (inOrder (givenIn (a .layout) (a .bytes .now))) (a .count) (turn .i)
+          (c .before .before .before .before .loop-test .taken)
+          (sym (λ j. precedes (c .before .before .before .given-at .ensures j) (c .before .before .given-at2 .ensures j)) ∙ sym
+          (c .before .precedes .ensures) ∙ not-false _ (c .if1 .left)),
+    )
 
 returns-2 : tie.Need-returns-2 Inv-loop μ-loop
-returns-2 c = sym (c .before .loop .inv .1 ∙ every-all (inOrder (givenIn (c .before .before .before .args .layout) (c .before .before .before .args .bytes .now))) (c .before .before .before .args .count) (c .before .loop .i) (c .loop-test .left))
+returns-2 c =
+    let a = c .before .before .before .args in
+    let turn = c .before .loop in
+    sym (turn .inv .1 ∙ every-all (inOrder (givenIn (a .layout) (a .bytes .now))) (a .count) (turn .i) (c .loop-test .left))
 
 pub is-ascending-spec : {M : Type 1} → statement M
 is-ascending-spec =

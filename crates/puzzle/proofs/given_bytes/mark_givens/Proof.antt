@@ -26,7 +26,8 @@ abbrev μ-loop : tie.MeasureT-loop
 loop-holds : tie.Need-loop-holds Inv-loop μ-loop
 unfolding givenCells givensIn
 loop-holds c =
-    (omega arith, omega arith, rw sub-zero (mark-walk (givenIn (c .before .args .layout) (c .before .args .bytes .now)) (replicate 81 false) (c .before .args .count) 0))
+    let a = c .before .args in
+    (omega arith, omega arith, rw sub-zero (mark-walk (givenIn (a .layout) (a .bytes .now)) (replicate 81 false) (a .count) 0))
 
 given-at-requires : tie.Need-given-at-requires Inv-loop μ-loop
 given-at-requires c κs = search needs
@@ -48,17 +49,23 @@ loop-less c = search needs
 
 loop-again : tie.Need-loop-again Inv-loop μ-loop
 loop-again c =
-    let f = givenIn (c .before .before .before .before .before .before .args .layout) (c .before .before .before .before .before .before .args .bytes .now) in
-    let at : c .index-of .result ≡ cellOf (f (c .before .before .before .before .loop .i) .row) (f (c .before .before .before .before .loop .i) .column) - 1 = c .index-of .ensures ∙ ap (λ (k : ℕ). k - 1) (c .before .cell-of .ensures .0 ∙ ap (λ (g : Given). cellOf (g .row) (g .column)) (c .before .before .given-at .ensures)) in (
+    let a = c .before .before .before .before .before .before .args in
+    let turn = c .before .before .before .before .loop in
+    let f = givenIn (a .layout) (a .bytes .now) in
+    let at : c .index-of .result ≡ cellOf (f (turn .i) .row) (f (turn .i) .column) - 1 = c .index-of .ensures ∙ ap (λ (k : ℕ). k - 1)
+    (c .before .cell-of .ensures .0 ∙ ap (λ (g : Given). cellOf (g .row) (g .column)) (c .before .before .given-at .ensures)) in (
       omega arith,
-      length-set (c .before .before .before .before .loop .flags) (c .index-of .result) _ ∙ c .before .before .before .before .loop .inv .1,
-      c .before .before .before .before .loop .inv .2
-          ∙ run-more (markAt f) (c .before .before .before .before .loop .flags) (c .before .before .before .before .before .before .args .count) (c .before .before .before .before .loop .i) (c .before .before .before .loop-test .taken)
-          ∙ ap (λ l. run (markAt f) l (c .before .before .before .before .before .before .args .count - (c .before .before .before .before .loop .i + 1)) (c .before .before .before .before .loop .i + 1)) (sym (λ j. set (c .before .before .before .before .loop .flags) (at j) true)),
+      length-set (turn .flags) (c .index-of .result) _ ∙ turn .inv .1,
+      turn .inv .2
+          ∙ run-more (markAt f) (turn .flags) (a .count) (turn .i) (c .before .before .before .loop-test .taken)
+          ∙ ap (λ l. run (markAt f) l (a .count - (turn .i + 1)) (turn .i + 1)) (sym (λ j. set (turn .flags) (at j) true)),
     )
 
 returns : tie.Need-returns Inv-loop μ-loop
-returns c = sym (c .before .loop .inv .2 ∙ run-all (markAt (givenIn (c .before .before .before .args .layout) (c .before .before .before .args .bytes .now))) (c .before .loop .flags) (c .before .before .before .args .count) (c .before .loop .i) (c .loop-test .left))
+returns c =
+    let a = c .before .before .before .args in
+    let turn = c .before .loop in
+    sym (turn .inv .2 ∙ run-all (markAt (givenIn (a .layout) (a .bytes .now))) (turn .flags) (a .count) (turn .i) (c .loop-test .left))
 
 pub mark-givens-spec : {M : Type 1} → statement M
 mark-givens-spec =

@@ -38,19 +38,33 @@ module _ (g h : Given) where
             rw (le-ltb (g .row) (h .row) l, eq-eqb (g .row) (h .row) e, le-ltb (g .column) (h .column) m, eq-eqb (g .column) (h .column) n)
 
 returns : tie.Need-returns
-returns c = sym (row-decides (c .before .before .before .args .g) (c .before .before .before .args .h) (c .if1 .taken))
+returns c =
+    let a = c .before .before .before .args in
+    sym (row-decides (a .g) (a .h) (c .if1 .taken))
 
 returns-2 : tie.Need-returns-2
-returns-2 c = sym (row-fails (c .before .before .before .before .before .before .args .g) (c .before .before .before .before .before .before .args .h) (c .before .before .before .if1 .left) (c .if2 .taken))
+returns-2 c =
+    let a = c .before .before .before .before .before .before .args in
+    sym (row-fails (a .g) (a .h) (c .before .before .before .if1 .left) (c .if2 .taken))
 
 returns-3 : tie.Need-returns-3
-returns-3 c = sym (column-decides (c .before .before .before .before .before .before .before .before .before .args .g) (c .before .before .before .before .before .before .before .before .before .args .h) (c .before .before .before .before .before .before .if1 .left) (c .before .before .before .if2 .left) (c .if3 .taken))
+returns-3 c =
+    let a = c .before .before .before .before .before .before .before .before .before .args in
+    sym (column-decides (a .g) (a .h) (c .before .before .before .before .before .before .if1 .left) (c .before .before .before .if2 .left)
+    (c .if3 .taken))
 
 returns-4 : tie.Need-returns-4
-returns-4 c = sym (column-fails (c .before .before .before .before .before .before .before .before .before .before .before .before .args .g) (c .before .before .before .before .before .before .before .before .before .before .before .before .args .h) (c .before .before .before .before .before .before .before .before .before .if1 .left) (c .before .before .before .before .before .before .if2 .left) (c .before .before .before .if3 .left) (c .if4 .taken))
+returns-4 c =
+    let a = c .before .before .before .before .before .before .before .before .before .before .before .before .args in
+    sym (column-fails (a .g) (a .h) (c .before .before .before .before .before .before .before .before .before .if1 .left)
+    (c .before .before .before .before .before .before .if2 .left) (c .before .before .before .if3 .left) (c .if4 .taken))
 
 returns-5 : tie.Need-returns-5
-returns-5 c = sym (digit-decides (c .before .before .before .before .before .before .before .before .before .before .before .before .before .before .args .g) (c .before .before .before .before .before .before .before .before .before .before .before .before .before .before .args .h) (c .before .before .before .before .before .before .before .before .before .before .before .if1 .left) (c .before .before .before .before .before .before .before .before .if2 .left) (c .before .before .before .before .before .if3 .left) (c .before .before .if4 .left))
+returns-5 c =
+    let a = c .before .before .before .before .before .before .before .before .before .before .before .before .before .before .args in
+    sym (digit-decides (a .g) (a .h) (c .before .before .before .before .before .before .before .before .before .before .before .if1 .left)
+    (c .before .before .before .before .before .before .before .before .if2 .left) (c .before .before .before .before .before .if3 .left)
+    (c .before .before .if4 .left))
 
 pub precedes-spec : {M : Type 1} → statement M
 precedes-spec = tie.close (tie.spec returns returns-2 returns-3 returns-4 returns-5)

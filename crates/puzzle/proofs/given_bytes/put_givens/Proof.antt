@@ -25,7 +25,8 @@ abbrev μ-loop : tie.MeasureT-loop
 loop-holds : tie.Need-loop-holds Inv-loop μ-loop
 unfolding digitsOf givensIn
 loop-holds c =
-    (omega arith, omega arith, rw sub-zero (put-walk (givenIn (c .before .args .layout) (c .before .args .bytes .now)) (replicate 81 0) (c .before .args .count) 0))
+    let a = c .before .args in
+    (omega arith, omega arith, rw sub-zero (put-walk (givenIn (a .layout) (a .bytes .now)) (replicate 81 0) (a .count) 0))
 
 given-at-requires : tie.Need-given-at-requires Inv-loop μ-loop
 given-at-requires c κs = search needs
@@ -48,17 +49,24 @@ loop-less c = search needs
 loop-again : tie.Need-loop-again Inv-loop μ-loop
 unfolding put
 loop-again c =
-    let f = givenIn (c .before .before .before .before .before .before .args .layout) (c .before .before .before .before .before .before .args .bytes .now) in
-    let at : c .index-of .result ≡ cellOf (f (c .before .before .before .before .loop .i) .row) (f (c .before .before .before .before .loop .i) .column) - 1 = c .index-of .ensures ∙ ap (λ (k : ℕ). k - 1) (c .before .cell-of .ensures .0 ∙ ap (λ (g : Given). cellOf (g .row) (g .column)) (c .before .before .given-at .ensures)) in (
+    let a = c .before .before .before .before .before .before .args in
+    let turn = c .before .before .before .before .loop in
+    let f = givenIn (a .layout) (a .bytes .now) in
+    let at : c .index-of .result ≡ cellOf (f (turn .i) .row) (f (turn .i) .column) - 1 = c .index-of .ensures ∙ ap (λ (k : ℕ). k - 1)
+    (c .before .cell-of .ensures .0 ∙ ap (λ (g : Given). cellOf (g .row) (g .column)) (c .before .before .given-at .ensures)) in (
       omega arith,
-      length-set (c .before .before .before .before .loop .digits) (c .index-of .result) _ ∙ c .before .before .before .before .loop .inv .1,
-      c .before .before .before .before .loop .inv .2
-          ∙ run-more (putAt f) (c .before .before .before .before .loop .digits) (c .before .before .before .before .before .before .args .count) (c .before .before .before .before .loop .i) (c .before .before .before .loop-test .taken)
-          ∙ ap (λ l. run (putAt f) l (c .before .before .before .before .before .before .args .count - (c .before .before .before .before .loop .i + 1)) (c .before .before .before .before .loop .i + 1)) (sym (λ j. set (c .before .before .before .before .loop .digits) (at j) (c .before .before .given-at .ensures j .digit))),
+      length-set (turn .digits) (c .index-of .result) _ ∙ turn .inv .1,
+      turn .inv .2
+          ∙ run-more (putAt f) (turn .digits) (a .count) (turn .i) (c .before .before .before .loop-test .taken)
+          ∙ ap (λ l. run (putAt f) l (a .count - (turn .i + 1)) (turn .i + 1))
+          (sym (λ j. set (turn .digits) (at j) (c .before .before .given-at .ensures j .digit))),
     )
 
 returns : tie.Need-returns Inv-loop μ-loop
-returns c = sym (c .before .loop .inv .2 ∙ run-all (putAt (givenIn (c .before .before .before .args .layout) (c .before .before .before .args .bytes .now))) (c .before .loop .digits) (c .before .before .before .args .count) (c .before .loop .i) (c .loop-test .left))
+returns c =
+    let a = c .before .before .before .args in
+    let turn = c .before .loop in
+    sym (turn .inv .2 ∙ run-all (putAt (givenIn (a .layout) (a .bytes .now))) (turn .digits) (a .count) (turn .i) (c .loop-test .left))
 
 pub put-givens-spec : {M : Type 1} → statement M
 put-givens-spec =

@@ -42,14 +42,18 @@ refusal-requires c κs = search needs
 
 returns : tie.Need-returns
 returns c =
-    c .refusal .ensures ∙ sym (held (c .before .before .before .before .before .args .digits .now) (c .before .before .before .before .before .args .cell) (c .before .before .first-holding .result) (found ((c .before .before))) (c .before .if1 .taken))
+    let a = c .before .before .before .before .before .args in
+    c .refusal .ensures ∙ sym (held (a .digits .now) (a .cell) (c .before .before .first-holding .result) (found ((c .before .before)))
+    (c .before .if1 .taken))
 
 accepted-requires : tie.Need-accepted-requires
 accepted-requires c κs = search needs
 
 returns-2 : tie.Need-returns-2
 returns-2 c =
-    c .accepted .ensures ∙ sym (free (c .before .before .before .before .before .args .digits .now) (c .before .before .before .before .before .args .cell) (c .before .before .first-holding .result) (found ((c .before .before))) (c .before .if1 .left))
+    let a = c .before .before .before .before .before .args in
+    c .accepted .ensures ∙ sym (free (a .digits .now) (a .cell) (c .before .before .first-holding .result) (found ((c .before .before)))
+    (c .before .if1 .left))
 
 pub conflict-at-spec : {M : Type 1} → statement M
 conflict-at-spec =

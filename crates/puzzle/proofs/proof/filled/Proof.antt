@@ -23,7 +23,10 @@ solution-digit-requires : tie.Need-solution-digit-requires Inv-loop μ-loop
 solution-digit-requires c κs = search needs
 
 returns : tie.Need-returns Inv-loop μ-loop
-returns c = sym (c .before .before .before .before .loop .inv .2 ∙ walk-refused (solutionDigit (c .before .before .before .before .before .before .args .solution .now)) 82 (c .before .before .before .before .loop .cell) (c .before .before .solution-digit .result) (omega arith) (c .before .before .solution-digit .ensures) (c .if1 .taken))
+returns c =
+    let turn = c .before .before .before .before .loop in
+    sym (turn .inv .2 ∙ walk-refused (solutionDigit (c .before .before .before .before .before .before .args .solution .now)) 82 (turn .cell)
+    (c .before .before .solution-digit .result) (omega arith) (c .before .before .solution-digit .ensures) (c .if1 .taken))
 
 add-cell : tie.Need-add-cell Inv-loop μ-loop
 add-cell c = search needs
@@ -32,13 +35,22 @@ loop-less : tie.Need-loop-less Inv-loop μ-loop
 loop-less c = search needs
 
 loop-again : tie.Need-loop-again Inv-loop μ-loop
-loop-again c = (omega arith, omega arith, c .before .before .before .before .loop .inv .2 ∙ walk-more (solutionDigit (c .before .before .before .before .before .before .args .solution .now)) 82 (c .before .before .before .before .loop .cell) (c .before .before .solution-digit .result) (omega arith) (c .before .before .solution-digit .ensures) (c .if1 .left))
+loop-again c =
+    let turn = c .before .before .before .before .loop in (
+      omega arith,
+      omega arith,
+      turn .inv .2 ∙ walk-more (solutionDigit (c .before .before .before .before .before .before .args .solution .now)) 82
+          (turn .cell) (c .before .before .solution-digit .result) (omega arith) (c .before .before .solution-digit .ensures) (c .if1 .left),
+    )
 
 accepted-requires : tie.Need-accepted-requires Inv-loop μ-loop
 accepted-requires c κs = search needs
 
 returns-2 : tie.Need-returns-2 Inv-loop μ-loop
-returns-2 c = c .accepted .ensures ∙ sym (c .before .before .loop .inv .2 ∙ walk-all (solutionDigit (c .before .before .before .before .args .solution .now)) 82 (c .before .before .loop .cell) (omega arith))
+returns-2 c =
+    let turn = c .before .before .loop in
+    c .accepted .ensures ∙ sym (turn .inv .2 ∙ walk-all (solutionDigit (c .before .before .before .before .args .solution .now)) 82 (turn .cell)
+    (omega arith))
 
 pub filled-spec : {M : Type 1} → statement M
 filled-spec =

@@ -23,7 +23,9 @@ abbrev μ-loop : tie.MeasureT-loop
 
 loop-holds : tie.Need-loop-holds Inv-loop μ-loop
 unfolding givensIn
-loop-holds c = (omega arith, rw sub-zero (matches-walk (givenIn (c .before .args .layout) (c .before .args .bytes .now)) (c .before .args .digits .now) (c .before .args .count) 0))
+loop-holds c =
+    let a = c .before .args in
+    (omega arith, rw sub-zero (matches-walk (givenIn (a .layout) (a .bytes .now)) (a .digits .now) (a .count) 0))
 
 given-at-requires : tie.Need-given-at-requires Inv-loop μ-loop
 given-at-requires c κs = search needs
@@ -35,7 +37,13 @@ given-matches-requires : tie.Need-given-matches-requires Inv-loop μ-loop
 given-matches-requires c κs = search needs
 
 returns : tie.Need-returns Inv-loop μ-loop
-returns c = sym (c .before .before .before .before .before .loop .inv .1 ∙ walk-refused (matchAt (givenIn (c .before .before .before .before .before .before .before .args .layout) (c .before .before .before .before .before .before .before .args .bytes .now)) (c .before .before .before .before .before .before .before .args .digits .now)) (c .before .before .before .before .before .before .before .args .count) (c .before .before .before .before .before .loop .i) (c .before .before .given-matches .result) (c .before .before .before .before .loop-test .taken) (c .before .before .given-matches .ensures ∙ ap (λ (g : Given). givenMatches (c .before .before .before .before .before .before .before .args .digits .now) g (c .before .before .before .before .before .loop .i + 1)) (c .before .before .before .given-at .ensures)) (c .if1 .taken))
+returns c =
+    let a = c .before .before .before .before .before .before .before .args in
+    let turn = c .before .before .before .before .before .loop in
+    sym (turn .inv .1 ∙ walk-refused (matchAt (givenIn (a .layout) (a .bytes .now)) (a .digits .now)) (a .count) (turn .i)
+    (c .before .before .given-matches .result) (c .before .before .before .before .loop-test .taken)
+    (c .before .before .given-matches .ensures ∙ ap (λ (g : Given). givenMatches (a .digits .now) g (turn .i + 1))
+    (c .before .before .before .given-at .ensures)) (c .if1 .taken))
 
 add-i : tie.Need-add-i Inv-loop μ-loop
 add-i c = search needs
@@ -44,13 +52,25 @@ loop-less : tie.Need-loop-less Inv-loop μ-loop
 loop-less c = search needs
 
 loop-again : tie.Need-loop-again Inv-loop μ-loop
-loop-again c = (omega arith, c .before .before .before .before .before .loop .inv .1 ∙ walk-more (matchAt (givenIn (c .before .before .before .before .before .before .before .args .layout) (c .before .before .before .before .before .before .before .args .bytes .now)) (c .before .before .before .before .before .before .before .args .digits .now)) (c .before .before .before .before .before .before .before .args .count) (c .before .before .before .before .before .loop .i) (c .before .before .given-matches .result) (c .before .before .before .before .loop-test .taken) (c .before .before .given-matches .ensures ∙ ap (λ (g : Given). givenMatches (c .before .before .before .before .before .before .before .args .digits .now) g (c .before .before .before .before .before .loop .i + 1)) (c .before .before .before .given-at .ensures)) (c .if1 .left))
+loop-again c =
+    let a = c .before .before .before .before .before .before .before .args in
+    let turn = c .before .before .before .before .before .loop in (
+      omega arith,
+      turn .inv .1 ∙ walk-more (matchAt (givenIn (a .layout) (a .bytes .now)) (a .digits .now)) (a .count) (turn .i)
+          (c .before .before .given-matches .result) (c .before .before .before .before .loop-test .taken)
+          (c .before .before .given-matches .ensures ∙ ap (λ (g : Given). givenMatches (a .digits .now) g (turn .i + 1))
+          (c .before .before .before .given-at .ensures)) (c .if1 .left),
+    )
 
 accepted-requires : tie.Need-accepted-requires Inv-loop μ-loop
 accepted-requires c κs = search needs
 
 returns-2 : tie.Need-returns-2 Inv-loop μ-loop
-returns-2 c = c .accepted .ensures ∙ sym (c .before .before .loop .inv .1 ∙ walk-all (matchAt (givenIn (c .before .before .before .before .args .layout) (c .before .before .before .before .args .bytes .now)) (c .before .before .before .before .args .digits .now)) (c .before .before .before .before .args .count) (c .before .before .loop .i) (c .before .loop-test .left))
+returns-2 c =
+    let a = c .before .before .before .before .args in
+    let turn = c .before .before .loop in
+    c .accepted .ensures ∙ sym (turn .inv .1 ∙ walk-all (matchAt (givenIn (a .layout) (a .bytes .now)) (a .digits .now)) (a .count) (turn .i)
+    (c .before .loop-test .left))
 
 pub first-mismatch-spec : {M : Type 1} → statement M
 first-mismatch-spec =

@@ -41,15 +41,18 @@ loop-less c = search needs
 
 loop-again : tie.Need-loop-again Inv-loop μ-loop
 unfolding entryAt
-loop-again c = (
-  omega arith,
-  length-set (c .before .before .loop .digits) (c .before .before .loop .i) _ ∙ c .before .before .loop .inv .1,
-  fill-more (entryAt (c .before .before .before .args .t1)) (c .before .before .loop .digits) (c .before .before .loop .i) (omega arith) (c .before .before .loop .inv .2),
-)
+loop-again c =
+    let turn = c .before .before .loop in (
+      omega arith,
+      length-set (turn .digits) (turn .i) _ ∙ turn .inv .1,
+      fill-more (entryAt (c .before .before .before .args .t1)) (turn .digits) (turn .i) (omega arith) (turn .inv .2),
+    )
 
 returns : tie.Need-returns Inv-loop μ-loop
 unfolding flat
-returns c = fill-all (entryAt (c .before .before .args .t1)) (c .before .loop .digits) 81 (c .before .loop .i) (c .before .loop .inv .1) (c .loop-test .left) (c .before .loop .inv .0) (c .before .loop .inv .2)
+returns c =
+    let turn = c .before .loop in
+    fill-all (entryAt (c .before .before .args .t1)) (turn .digits) 81 (turn .i) (turn .inv .1) (c .loop-test .left) (turn .inv .0) (turn .inv .2)
 
 pub flat-spec : {M : Type 1} → statement M
 flat-spec =

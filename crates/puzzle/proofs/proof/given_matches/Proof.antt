@@ -28,13 +28,15 @@ module _ (s : List ℕ) (g : Given) (index : ℕ) where
     unfolding givenMatches
     differs n =
         or-else-past _ _ (if-not _ (refusal 26 index 0) (not-is-false (onGrid (g .row) (g .column)) p))
-        ∙ refused-if _ (refusal 27 index 0) (not-is-true (eqb (at s (cellOf (g .row) (g .column))) (g .digit)) (ne-eqb (at s (cellOf (g .row) (g .column))) (g .digit) n))
+        ∙ refused-if _ (refusal 27 index 0) (not-is-true (eqb (at s (cellOf (g .row) (g .column))) (g .digit))
+        (ne-eqb (at s (cellOf (g .row) (g .column))) (g .digit) n))
 
     agrees : at s (cellOf (g .row) (g .column)) ≡ g .digit → givenMatches s g index ≡ accepted
     unfolding givenMatches
     agrees e =
         or-else-past _ _ (if-not _ (refusal 26 index 0) (not-is-false (onGrid (g .row) (g .column)) p))
-        ∙ if-not _ (refusal 27 index 0) (not-is-false (eqb (at s (cellOf (g .row) (g .column))) (g .digit)) (eq-eqb (at s (cellOf (g .row) (g .column))) (g .digit) e))
+        ∙ if-not _ (refusal 27 index 0) (not-is-false (eqb (at s (cellOf (g .row) (g .column))) (g .digit))
+        (eq-eqb (at s (cellOf (g .row) (g .column))) (g .digit) e))
 
 -- the digit that was read is the solution's at the given's cell
 read : (c : tie.After-digit-at) → c .digit-at .result ≡ at (c .before .before .before .before .args .digits .now) (cellOf (c .before .before .before .before .args .g .row) (c .before .before .before .before .args .g .column))
@@ -47,7 +49,10 @@ refusal-requires : tie.Need-refusal-requires
 refusal-requires c κs = search needs
 
 returns : tie.Need-returns
-returns c = c .refusal .ensures ∙ sym (off-grid (c .before .before .before .args .digits .now) (c .before .before .before .args .g) (c .before .before .before .args .index) (sym (c .before .before .on-grid .ensures) ∙ not-true _ (c .before .if1 .taken)))
+returns c =
+    let a = c .before .before .before .args in
+    c .refusal .ensures ∙ sym (off-grid (a .digits .now) (a .g) (a .index)
+    (sym (c .before .before .on-grid .ensures) ∙ not-true _ (c .before .if1 .taken)))
 
 cell-of-requires : tie.Need-cell-of-requires
 cell-of-requires c κs = search needs
@@ -59,13 +64,21 @@ refusal-requires-2 : tie.Need-refusal-requires-2
 refusal-requires-2 c κs = search needs
 
 returns-2 : tie.Need-returns-2
-returns-2 c = c .refusal2 .ensures ∙ sym (differs (c .before .before .before .before .before .before .before .args .digits .now) (c .before .before .before .before .before .before .before .args .g) (c .before .before .before .before .before .before .before .args .index) (sym (c .before .before .before .before .before .before .on-grid .ensures) ∙ not-false _ (c .before .before .before .before .before .if1 .left)) (λ e. c .before .if2 .taken (read ((c .before .before .before)) ∙ e)))
+returns-2 c =
+    let a = c .before .before .before .before .before .before .before .args in
+    c .refusal2 .ensures ∙ sym (differs (a .digits .now) (a .g) (a .index)
+    (sym (c .before .before .before .before .before .before .on-grid .ensures) ∙ not-false _ (c .before .before .before .before .before .if1 .left))
+    (λ e. c .before .if2 .taken (read ((c .before .before .before)) ∙ e)))
 
 accepted-requires : tie.Need-accepted-requires
 accepted-requires c κs = search needs
 
 returns-3 : tie.Need-returns-3
-returns-3 c = c .accepted .ensures ∙ sym (agrees (c .before .before .before .before .before .before .before .args .digits .now) (c .before .before .before .before .before .before .before .args .g) (c .before .before .before .before .before .before .before .args .index) (sym (c .before .before .before .before .before .before .on-grid .ensures) ∙ not-false _ (c .before .before .before .before .before .if1 .left)) (sym (read ((c .before .before .before))) ∙ c .before .if2 .left))
+returns-3 c =
+    let a = c .before .before .before .before .before .before .before .args in
+    c .accepted .ensures ∙ sym (agrees (a .digits .now) (a .g) (a .index)
+    (sym (c .before .before .before .before .before .before .on-grid .ensures) ∙ not-false _ (c .before .before .before .before .before .if1 .left))
+    (sym (read ((c .before .before .before))) ∙ c .before .if2 .left))
 
 pub given-matches-spec : {M : Type 1} → statement M
 given-matches-spec =

@@ -46,15 +46,20 @@ loop-less c = search needs
 
 loop-again : tie.Need-loop-again Inv-loop μ-loop
 loop-again c =
-    let f = entry (c .before .before .before .before .args .solution .now) (c .before .before .before .before .args .r) in (
+    let a = c .before .before .before .before .args in
+    let turn = c .before .before .loop in
+    let f = entry (a .solution .now) (a .r) in (
       omega arith,
-      length-set (c .before .before .loop .row) (c .before .before .loop .i) _ ∙ c .before .before .loop .inv .1,
-      rw (c .byte-at .ensures) (fill-more f (c .before .before .loop .row) (c .before .before .loop .i) (omega arith) (c .before .before .loop .inv .2)),
+      length-set (turn .row) (turn .i) _ ∙ turn .inv .1,
+      rw (c .byte-at .ensures) (fill-more f (turn .row) (turn .i) (omega arith) (turn .inv .2)),
     )
 
 returns : tie.Need-returns Inv-loop μ-loop
 unfolding rowAt
-returns c = fill-all (entry (c .before .before .before .args .solution .now) (c .before .before .before .args .r)) (c .before .loop .row) 9 (c .before .loop .i) (c .before .loop .inv .1) (c .loop-test .left) (c .before .loop .inv .0) (c .before .loop .inv .2)
+returns c =
+    let a = c .before .before .before .args in
+    let turn = c .before .loop in
+    fill-all (entry (a .solution .now) (a .r)) (turn .row) 9 (turn .i) (turn .inv .1) (c .loop-test .left) (turn .inv .0) (turn .inv .2)
 
 pub row-at-spec : {M : Type 1} → statement M
 row-at-spec =

@@ -37,15 +37,20 @@ loop-less : tie.Need-loop-less Inv-loop μ-loop
 loop-less c = search needs
 
 loop-again : tie.Need-loop-again Inv-loop μ-loop
-loop-again c = (
-  omega arith,
-  length-set (c .before .before .loop .rows) (c .before .before .loop .i) _ ∙ c .before .before .loop .inv .1,
-  rw (c .row-at .ensures) (fill-more (rowAt (c .before .before .before .before .args .solution .now)) (c .before .before .loop .rows) (c .before .before .loop .i) (omega arith) (c .before .before .loop .inv .2)),
-)
+loop-again c =
+    let turn = c .before .before .loop in (
+      omega arith,
+      length-set (turn .rows) (turn .i) _ ∙ turn .inv .1,
+      rw (c .row-at .ensures) (fill-more (rowAt (c .before .before .before .before .args .solution .now)) (turn .rows) (turn .i) (omega arith)
+          (turn .inv .2)),
+    )
 
 returns : tie.Need-returns Inv-loop μ-loop
 unfolding rowsOf
-returns c = fill-all (rowAt (c .before .before .before .args .solution .now)) (c .before .loop .rows) 9 (c .before .loop .i) (c .before .loop .inv .1) (c .loop-test .left) (c .before .loop .inv .0) (c .before .loop .inv .2)
+returns c =
+    let turn = c .before .loop in
+    fill-all (rowAt (c .before .before .before .args .solution .now)) (turn .rows) 9 (turn .i) (turn .inv .1) (c .loop-test .left) (turn .inv .0)
+    (turn .inv .2)
 
 pub rows-of-spec : {M : Type 1} → statement M
 rows-of-spec =

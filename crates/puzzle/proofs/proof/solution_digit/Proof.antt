@@ -49,19 +49,27 @@ refusal-requires : tie.Need-refusal-requires
 refusal-requires c κs = search needs
 
 returns : tie.Need-returns
-returns c = c .refusal .ensures ∙ sym (empty (c .before .before .before .before .before .args .solution .now) (c .before .before .before .before .before .args .cell) (sym (read ((c .before .before))) ∙ c .before .if1 .taken))
+returns c =
+    let a = c .before .before .before .before .before .args in
+    c .refusal .ensures ∙ sym (empty (a .solution .now) (a .cell) (sym (read ((c .before .before))) ∙ c .before .if1 .taken))
 
 refusal-requires-2 : tie.Need-refusal-requires-2
 refusal-requires-2 c κs = search needs
 
 returns-2 : tie.Need-returns-2
-returns-2 c = c .refusal2 .ensures ∙ sym (large (c .before .before .before .before .before .before .args .solution .now) (c .before .before .before .before .before .before .args .cell) (λ e. c .before .before .if1 .left (read ((c .before .before .before)) ∙ e)) (rw (read ((c .before .before .before))) at (c .before .if2 .taken)))
+returns-2 c =
+    let a = c .before .before .before .before .before .before .args in
+    c .refusal2 .ensures ∙ sym (large (a .solution .now) (a .cell) (λ e. c .before .before .if1 .left (read ((c .before .before .before)) ∙ e))
+    (rw (read ((c .before .before .before))) at (c .before .if2 .taken)))
 
 accepted-requires : tie.Need-accepted-requires
 accepted-requires c κs = search needs
 
 returns-3 : tie.Need-returns-3
-returns-3 c = c .accepted .ensures ∙ sym (digit (c .before .before .before .before .before .before .args .solution .now) (c .before .before .before .before .before .before .args .cell) (λ e. c .before .before .if1 .left (read ((c .before .before .before)) ∙ e)) (rw (read ((c .before .before .before))) at (c .before .if2 .left)))
+returns-3 c =
+    let a = c .before .before .before .before .before .before .args in
+    c .accepted .ensures ∙ sym (digit (a .solution .now) (a .cell) (λ e. c .before .before .if1 .left (read ((c .before .before .before)) ∙ e))
+    (rw (read ((c .before .before .before))) at (c .before .if2 .left)))
 
 pub solution-digit-spec : {M : Type 1} → statement M
 solution-digit-spec =

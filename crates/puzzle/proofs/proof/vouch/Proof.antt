@@ -59,14 +59,19 @@ refusal-requires c κs = search needs
 
 returns : tie.Need-returns
 returns c =
-    c .refusal .ensures ∙ sym (none-left (givensIn (c .before .before .before .before .args .layout) (c .before .before .before .before .args .bytes .now) (c .before .before .before .before .args .count)) (c .before .before .before .before .args .solution .now) (omega (arith, length-givens (c .before .before .before .before .args .layout) (c .before .before .before .before .args .bytes .now) (c .before .before .before .before .args .count), c .before .if1 .taken)))
+    let a = c .before .before .before .before .args in
+    c .refusal .ensures ∙ sym (none-left (givensIn (a .layout) (a .bytes .now) (a .count)) (a .solution .now)
+    (omega (arith, length-givens (a .layout) (a .bytes .now) (a .count), c .before .if1 .taken)))
 
 filled-requires : tie.Need-filled-requires
 filled-requires c κs = search needs
 
 returns-2 : tie.Need-returns-2
 returns-2 c =
-    sym (not-filled (givensIn (c .before .before .before .before .before .before .args .layout) (c .before .before .before .before .before .before .args .bytes .now) (c .before .before .before .before .before .before .args .count)) (c .before .before .before .before .before .before .args .solution .now) (omega (arith, length-givens (c .before .before .before .before .before .before .args .layout) (c .before .before .before .before .before .before .args .bytes .now) (c .before .before .before .before .before .before .args .count))) (c .before .before .filled .result) (c .before .before .filled .ensures) (c .if2 .taken))
+    let a = c .before .before .before .before .before .before .args in
+    let fill = c .before .before .filled in
+    sym (not-filled (givensIn (a .layout) (a .bytes .now) (a .count)) (a .solution .now)
+    (omega (arith, length-givens (a .layout) (a .bytes .now) (a .count))) (fill .result) (fill .ensures) (c .if2 .taken))
 
 rows-of-requires : tie.Need-rows-of-requires
 rows-of-requires c κs = search needs
@@ -76,18 +81,29 @@ consistent-requires c κs = search needs
 
 returns-3 : tie.Need-returns-3
 returns-3 c =
-    sym (in-conflict (givensIn (c .before .before .before .before .before .before .before .before .before .before .args .layout) (c .before .before .before .before .before .before .before .before .before .before .args .bytes .now) (c .before .before .before .before .before .before .before .before .before .before .args .count)) (c .before .before .before .before .before .before .before .before .before .before .args .solution .now) (omega (arith, length-givens (c .before .before .before .before .before .before .before .before .before .before .args .layout) (c .before .before .before .before .before .before .before .before .before .before .args .bytes .now) (c .before .before .before .before .before .before .before .before .before .before .args .count))) (c .before .before .before .before .before .before .filled .result) (c .before .before .before .before .before .before .filled .ensures) (c .before .before .before .before .if2 .left) (c .before .before .consistent .result)
-    (c .before .before .consistent .ensures ∙ ap ofRows (c .before .before .before .rows-of .ensures)) (c .if3 .taken))
+    let a = c .before .before .before .before .before .before .before .before .before .before .args in
+    let fill = c .before .before .before .before .before .before .filled in
+    let test = c .before .before .consistent in
+    sym (in-conflict (givensIn (a .layout) (a .bytes .now) (a .count)) (a .solution .now)
+    (omega (arith, length-givens (a .layout) (a .bytes .now) (a .count))) (fill .result) (fill .ensures)
+    (c .before .before .before .before .if2 .left) (test .result)
+    (test .ensures ∙ ap ofRows (c .before .before .before .rows-of .ensures)) (c .if3 .taken))
 
 matches-requires : tie.Need-matches-requires
 matches-requires c κs = search needs
 
 returns-4 : tie.Need-returns-4
 returns-4 c =
+    let a = c .before .before .before .before .before .before .before .before .before .before .before .args in
+    let fill = c .before .before .before .before .before .before .before .filled in
+    let test = c .before .before .before .consistent in
     c .matches .ensures
-    ∙ ap (λ (rows : List (List ℕ)). givensMatch (flat rows) (givensIn (c .before .before .before .before .before .before .before .before .before .before .before .args .layout) (c .before .before .before .before .before .before .before .before .before .before .before .args .bytes .now) (c .before .before .before .before .before .before .before .before .before .before .before .args .count)) 1) (c .before .before .before .before .rows-of .ensures)
-    ∙ sym (to-match (givensIn (c .before .before .before .before .before .before .before .before .before .before .before .args .layout) (c .before .before .before .before .before .before .before .before .before .before .before .args .bytes .now) (c .before .before .before .before .before .before .before .before .before .before .before .args .count)) (c .before .before .before .before .before .before .before .before .before .before .before .args .solution .now) (omega (arith, length-givens (c .before .before .before .before .before .before .before .before .before .before .before .args .layout) (c .before .before .before .before .before .before .before .before .before .before .before .args .bytes .now) (c .before .before .before .before .before .before .before .before .before .before .before .args .count))) (c .before .before .before .before .before .before .before .filled .result) (c .before .before .before .before .before .before .before .filled .ensures) (c .before .before .before .before .before .if2 .left) (c .before .before .before .consistent .result)
-    (c .before .before .before .consistent .ensures ∙ ap ofRows (c .before .before .before .before .rows-of .ensures)) (c .before .if3 .left))
+    ∙ ap (λ (rows : List (List ℕ)). givensMatch (flat rows) (givensIn (a .layout) (a .bytes .now) (a .count)) 1)
+    (c .before .before .before .before .rows-of .ensures)
+    ∙ sym (to-match (givensIn (a .layout) (a .bytes .now) (a .count)) (a .solution .now)
+    (omega (arith, length-givens (a .layout) (a .bytes .now) (a .count))) (fill .result) (fill .ensures)
+    (c .before .before .before .before .before .if2 .left) (test .result)
+    (test .ensures ∙ ap ofRows (c .before .before .before .before .rows-of .ensures)) (c .before .if3 .left))
 
 pub vouch-spec : {M : Type 1} → statement M
 vouch-spec =

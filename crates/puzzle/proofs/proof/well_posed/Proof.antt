@@ -21,9 +21,11 @@ refusal-requires c κs = search needs
 returns : tie.Need-returns
 unfolding wellPosed
 returns c =
+    let a = c .before .before .before .before .before .args in
     c .refusal .ensures
     ∙ sym (or-else-by _ _ (refusal 19 0 0)
-    (refused-if _ (refusal 19 0 0) (not-is-true (ascending (givensIn (c .before .before .before .before .before .args .layout) (c .before .before .before .before .before .args .bytes .now) (c .before .before .before .before .before .args .count))) (sym (c .before .before .is-ascending .ensures) ∙ not-true _ (c .before .if1 .taken)))) (eqb-false 19 0 refl))
+    (refused-if _ (refusal 19 0 0) (not-is-true (ascending (givensIn (a .layout) (a .bytes .now) (a .count)))
+    (sym (c .before .before .is-ascending .ensures) ∙ not-true _ (c .before .if1 .taken)))) (eqb-false 19 0 refl))
 
 vouch-requires : tie.Need-vouch-requires
 vouch-requires c κs = search needs
@@ -31,9 +33,11 @@ vouch-requires c κs = search needs
 returns-2 : tie.Need-returns-2
 unfolding wellPosed
 returns-2 c =
+    let a = c .before .before .before .before .before .args in
     c .vouch .ensures
     ∙ sym (or-else-past _ _
-    (if-not _ (refusal 19 0 0) (not-is-false (ascending (givensIn (c .before .before .before .before .before .args .layout) (c .before .before .before .before .before .args .bytes .now) (c .before .before .before .before .before .args .count))) (sym (c .before .before .is-ascending .ensures) ∙ not-false _ (c .before .if1 .left)))))
+    (if-not _ (refusal 19 0 0) (not-is-false (ascending (givensIn (a .layout) (a .bytes .now) (a .count)))
+    (sym (c .before .before .is-ascending .ensures) ∙ not-false _ (c .before .if1 .left)))))
 
 pub well-posed-spec : {M : Type 1} → statement M
 well-posed-spec =
