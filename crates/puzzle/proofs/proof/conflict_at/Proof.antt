@@ -25,7 +25,8 @@ module _ (s : List ℕ) (cell peer : ℕ) (e : peer ≡ firstHolding s (at s cel
   free z = rw (← e) (if-not _ (refusal 25 cell peer) (not-is-false (eqb peer 0) (eq-eqb peer 0 z)))
 
 -- what the walk found is the first peer equal to the cell
-found : (c : tie.After-first-holding) → c .first-holding .result ≡ firstHolding (c .before .before .before .args .digits .now) (at (c .before .before .before .args .digits .now) (c .before .before .before .args .cell)) (peersOf (c .before .before .before .args .cell))
+found : (c : tie.After-first-holding)
+    → c .first-holding .result ≡ firstHolding (c .before .before .before .args .digits .now) (at (c .before .before .before .args .digits .now) (c .before .before .before .args .cell)) (peersOf (c .before .before .before .args .cell))
 found c = rw (c .first-holding .ensures, c .before .peers .ensures, c .before .before .digit-at .ensures)
 
 digit-at-requires : tie.Need-digit-at-requires

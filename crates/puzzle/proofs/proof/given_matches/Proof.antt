@@ -39,7 +39,8 @@ module _ (s : List ℕ) (g : Given) (index : ℕ) where
         (eq-eqb (at s (cellOf (g .row) (g .column))) (g .digit) e))
 
 -- the digit that was read is the solution's at the given's cell
-read : (c : tie.After-digit-at) → c .digit-at .result ≡ at (c .before .before .before .before .args .digits .now) (cellOf (c .before .before .before .before .args .g .row) (c .before .before .before .before .args .g .column))
+read : (c : tie.After-digit-at)
+    → c .digit-at .result ≡ at (c .before .before .before .before .args .digits .now) (cellOf (c .before .before .before .before .args .g .row) (c .before .before .before .before .args .g .column))
 read c = rw (c .digit-at .ensures, c .before .cell-of .ensures .0)
 
 on-grid-requires : tie.Need-on-grid-requires
