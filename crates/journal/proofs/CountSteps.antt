@@ -1,7 +1,7 @@
 -- The laws of the journal's two counts: each of the three steps where it acts and where it changes nothing, that taking back and retaking undo each other, and the bounds that they keep.
 -- Assumes nothing.
-use Prim.Native.Nat.{ℕ, suc, _+_, _-_, _≤_, _<_, min}
-use mathlib.Core.Path.{_≡_, refl, sym, ap, _∙_}
+use Prim.Native.Nat.{ℕ, _+_, _-_, _≤_, _<_, min}
+use mathlib.Core.Path.{_≡_, ap, _∙_}
 use native.Mathlib.Omega.{arith}
 use borrow.Author.Tests.{le-leb, lt-leb, eq-eqb, ne-eqb, leb-true, leb-false, eqb-true, eqb-false}
 use lib.Dec.{leb, eqb}
@@ -16,14 +16,7 @@ pub record Sound (c : Counts) : Type 0 where
   pub stands : c .standing ≤ c .made
 
 module _ (c : Counts) where
-  -- recording at the limit
-  pub recorded-full : maxMoves ≤ c .standing → recorded c ≡ c
-  unfolding recorded
-  recorded-full h =
-      pick-true (leb maxMoves (c .standing)) c (counts (min (c .made) (c .standing) + 1) (min (c .made) (c .standing) + 1))
-      (le-leb maxMoves (c .standing) h)
-
-  -- below it, where no more stand than are made: the moves after standing are dropped and one is added
+  -- recording below the limit, where no more stand than are made: the moves after standing are dropped and one is added
   pub recorded-one : c .standing < maxMoves → c .standing ≤ c .made → recorded c ≡ counts (c .standing + 1) (c .standing + 1)
   unfolding recorded
   recorded-one h u =
@@ -38,6 +31,11 @@ module _ (c : Counts) where
       pick-false (leb maxMoves (c .standing)) c (counts (min (c .made) (c .standing) + 1) (min (c .made) (c .standing) + 1))
       (lt-leb maxMoves (c .standing) h)
       ∙ ap (λ (n : ℕ). counts (n + 1) (n + 1)) {x = min (c .made) (c .standing)} {y = c .made} (omega arith)
+
+  -- at the limit it changes nothing
+  pub recorded-full : maxMoves ≤ c .standing → recorded c ≡ c
+  unfolding recorded
+  recorded-full h = pick-true _ c _ (le-leb maxMoves (c .standing) h)
 
   pub taken-back-none : c .standing ≡ 0 → takenBack c ≡ c
   unfolding takenBack

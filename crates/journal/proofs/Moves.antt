@@ -1,16 +1,16 @@
 -- The laws of the four moves: what a state played from its opening keeps, and that a move taken back gives the state before it and a move performed again the state after it.
 -- Assumes nothing.
-use Prim.Native.Nat.{ℕ, zero, suc, _+_, _-_, _^_, _≤_, _<_}
+use Prim.Native.Nat.{ℕ, _-_, _^_, _≤_, _<_}
 use mathlib.Core.Path.{_≡_, refl, sym, ap, subst, _∙_}
 use mathlib.Core.Bool.{Bool, true, false, not}
-use mathlib.Core.List.{List, [], _∷_}
+use mathlib.Core.List.{List}
 use native.Mathlib.Omega.{arith}
 use borrow.Author.Tests.{eqb-true, eqb-false, eq-eqb, ne-eqb, le-leb, lt-ltb, leb-true, leb-false, not-true, not-false}
 use lib.Dec.{eqb, leb, ltb}
 use lib.ListN.{length, getD, replicate, getD-replicate, List·getD-eq-default}
 use Rattle.sudoku.specs.Tests.{pick, both, either}
 use Rattle.sudoku.specs.Grid.{inRange, onGrid, cellOf, isCell, at, put, peersOf}
-use Rattle.sudoku.proofs.Walks.{by-test, not-both-ways, pick-true, pick-false, both-true, both-right, both-second, both-false-left, both-false-right, either-left, either-right, every-at, Entry}
+use Rattle.sudoku.proofs.Walks.{by-test, not-both-ways, pick-true, pick-false, both-true, both-right, both-false-left, both-false-right, either-left, either-right, every-at}
 use Rattle.sudoku.proofs.Grid.{cell-from, cell-to, is-cell, cell-of-is-cell, range-from, range-to, in-range, at-put, at-put-by, put-put, put-at, length-put, peers-length}
 use Rattle.sudoku.proofs.Each.{Each}
 use Rattle.note.specs.Note.{contains, isNote}
@@ -21,11 +21,11 @@ use Rattle.puzzle.proofs.Givens.{OnGrid, Matches, Rising, rising, marked, given
 use Rattle.puzzle.specs.Puzzle.{holdsDigit, isFull, isConsistent, settled}
 use Rattle.journal.specs.declared.Move.{Move}
 use Rattle.journal.specs.declared.Move.the-variants.{Place, Erase, WriteMark, StrikeMark}
-use Rattle.journal.specs.declared.Slot.{Slot}
-use Rattle.journal.specs.State.{State, opening, isGiven, digitAt, noteAt, withNotes, putDigit, writeAt, strikeAt, strikeAll, holders, strikeMasked, writeMasked, everyMasked, rowIn, columnIn, digitIn, kindOf, perform, before, struck, performAgain, takeBack, standsAsLeft, standsAsFound}
+use Rattle.journal.specs.State.{State, opening, isGiven, digitAt, noteAt, withNotes, putDigit, writeAt, strikeAt, strikeAll, holders, writeMasked, everyMasked, rowIn, columnIn, digitIn, kindOf, perform, before, struck, performAgain, takeBack, standsAsLeft, standsAsFound}
 use Rattle.journal.specs.Slots.{slotFor, moveOf, soundPlace, soundErase, soundMark, isSound}
-use Rattle.journal.proofs.PeerCells.{peers-within}
-use Rattle.journal.proofs.NoteCells.{isIn, isMasked, Within, AreNotes, in-at, masked-in, masked-holders, holders-small, strike-all-mark, strike-at-mark, write-at-mark, length-strike-all, length-strike-at, length-write-at, strike-all-notes, strike-at-notes, write-at-notes, strike-again, write-back, every-masked, strike-written, write-struck}
+use Rattle.journal.proofs.PeerCells.{peers-within, in-cells, in-peers}
+use Rattle.journal.proofs.Pointwise.{place-struck}
+use Rattle.journal.proofs.NoteCells.{isIn, Within, AreNotes, masked-in, masked-holders, holders-small, strike-at-mark, write-at-mark, length-strike-all, length-strike-at, length-write-at, strike-all-notes, strike-at-notes, write-at-notes, strike-again, write-back, every-masked, strike-written, write-struck}
 
 -- what holds of every state played from its opening: 81 cells, digits 0 to 9, a digit in each given, notes of the marks 1 to 9, and the status that the digits have
 pub record Fit (s : State) : Type 0 where
@@ -155,52 +155,6 @@ status-back digits d t u e z h =
     by-test (eqb d 0) (λ k. pick-true (eqb d 0) t (settled digits t) k ∙ e ∙ sym z)
     (λ k. status-put digits d t e (eqb-false d 0 k) ∙ sym h)
 
--- ---- what every move keeps
-
--- a move performed in a fit, unsolved state leaves a fit state
-pub fit-perform : (s : State) (m : Move) → Fit s → s .solved ≡ false → Allowed s m → Fit (perform s m)
-unfolding perform putDigit
-fit-perform s (Place row column digit) f u a =
-    fit-notes (putDigit s (cellOf row column) digit)
-    (fit-put s f (cellOf row column) digit (cell-of-is-cell row column (a .grid)) (a .free) (range-to digit (a .range))
-    (status-put (put (s .digits) (cellOf row column) digit) digit (s .solved) u (λ z. omega (arith, z, range-from digit (a .range)))))
-    (strikeAll (s .notes) digit (peersOf (cellOf row column)))
-    (length-strike-all (s .notes) digit (peersOf (cellOf row column)) ∙ f .notes-81)
-    (strike-all-notes (s .notes) (notes-are s f) digit (peersOf (cellOf row column)) (peers-in s f (cellOf row column) (cell-of-is-cell row column (a .grid))))
-fit-perform s (Erase row column) f u a =
-    fit-put s f (cellOf row column) 0 (cell-of-is-cell row column (a .grid)) (a .free) (omega arith)
-    (status-empty (s .digits) (cellOf row column) (s .solved) (f .digits-81) (cell-of-is-cell row column (a .grid)) u)
-fit-perform s (WriteMark row column digit) f u a =
-    fit-notes s f (writeAt (s .notes) (cellOf row column) digit) (length-write-at (s .notes) (cellOf row column) digit ∙ f .notes-81)
-    (write-at-notes (s .notes) (notes-are s f) (cellOf row column) digit
-    (cell-from (cellOf row column) (cell-of-is-cell row column (a .grid))) (notes-long s f (cellOf row column) (cell-of-is-cell row column (a .grid))))
-fit-perform s (StrikeMark row column digit) f u a =
-    fit-notes s f (strikeAt (s .notes) (cellOf row column) digit) (length-strike-at (s .notes) (cellOf row column) digit ∙ f .notes-81)
-    (strike-at-notes (s .notes) (notes-are s f) (cellOf row column) digit
-    (cell-from (cellOf row column) (cell-of-is-cell row column (a .grid))) (notes-long s f (cellOf row column) (cell-of-is-cell row column (a .grid))))
-
--- no move touches the givens
-pub given-kept : (s : State) (m : Move) → (perform s m) .given ≡ s .given
-unfolding perform putDigit withNotes
-given-kept s (Place row column digit) = refl
-given-kept s (Erase row column) = refl
-given-kept s (WriteMark row column digit) = refl
-given-kept s (StrikeMark row column digit) = refl
-
-pub given-kept-again : (s : State) (m : Move) (mask : ℕ) → (performAgain s m mask) .given ≡ s .given
-unfolding perform performAgain putDigit withNotes
-given-kept-again s (Place row column digit) mask = refl
-given-kept-again s (Erase row column) mask = refl
-given-kept-again s (WriteMark row column digit) mask = refl
-given-kept-again s (StrikeMark row column digit) mask = refl
-
-pub given-kept-back : (s : State) (m : Move) (digitBefore mask : ℕ) → (takeBack s m digitBefore mask) .given ≡ s .given
-unfolding takeBack putDigit withNotes
-given-kept-back s (Place row column digit) digitBefore mask = refl
-given-kept-back s (Erase row column) digitBefore mask = refl
-given-kept-back s (WriteMark row column digit) digitBefore mask = refl
-given-kept-back s (StrikeMark row column digit) digitBefore mask = refl
-
 -- ---- again, and back
 
 -- a move performed again in the state before it, with the mask of its slot, gives the state after it
@@ -260,6 +214,52 @@ taken-back s (StrikeMark row column digit) f u a e =
     (write-struck (s .notes) (cellOf row column) digit (cell-from (cellOf row column) (cell-of-is-cell row column (a .grid)))
     (notes-long s f (cellOf row column) (cell-of-is-cell row column (a .grid))) (a .there))
 
+-- ---- what every move keeps
+
+-- a move performed in a fit, unsolved state leaves a fit state
+pub fit-perform : (s : State) (m : Move) → Fit s → s .solved ≡ false → Allowed s m → Fit (perform s m)
+unfolding perform putDigit
+fit-perform s (Place row column digit) f u a =
+    fit-notes (putDigit s (cellOf row column) digit)
+    (fit-put s f (cellOf row column) digit (cell-of-is-cell row column (a .grid)) (a .free) (range-to digit (a .range))
+    (status-put (put (s .digits) (cellOf row column) digit) digit (s .solved) u (λ z. omega (arith, z, range-from digit (a .range)))))
+    (strikeAll (s .notes) digit (peersOf (cellOf row column)))
+    (length-strike-all (s .notes) digit (peersOf (cellOf row column)) ∙ f .notes-81)
+    (strike-all-notes (s .notes) (notes-are s f) digit (peersOf (cellOf row column)) (peers-in s f (cellOf row column) (cell-of-is-cell row column (a .grid))))
+fit-perform s (Erase row column) f u a =
+    fit-put s f (cellOf row column) 0 (cell-of-is-cell row column (a .grid)) (a .free) (omega arith)
+    (status-empty (s .digits) (cellOf row column) (s .solved) (f .digits-81) (cell-of-is-cell row column (a .grid)) u)
+fit-perform s (WriteMark row column digit) f u a =
+    fit-notes s f (writeAt (s .notes) (cellOf row column) digit) (length-write-at (s .notes) (cellOf row column) digit ∙ f .notes-81)
+    (write-at-notes (s .notes) (notes-are s f) (cellOf row column) digit
+    (cell-from (cellOf row column) (cell-of-is-cell row column (a .grid))) (notes-long s f (cellOf row column) (cell-of-is-cell row column (a .grid))))
+fit-perform s (StrikeMark row column digit) f u a =
+    fit-notes s f (strikeAt (s .notes) (cellOf row column) digit) (length-strike-at (s .notes) (cellOf row column) digit ∙ f .notes-81)
+    (strike-at-notes (s .notes) (notes-are s f) (cellOf row column) digit
+    (cell-from (cellOf row column) (cell-of-is-cell row column (a .grid))) (notes-long s f (cellOf row column) (cell-of-is-cell row column (a .grid))))
+
+-- no move touches the givens
+pub given-kept : (s : State) (m : Move) → (perform s m) .given ≡ s .given
+unfolding perform putDigit withNotes
+given-kept s (Place row column digit) = refl
+given-kept s (Erase row column) = refl
+given-kept s (WriteMark row column digit) = refl
+given-kept s (StrikeMark row column digit) = refl
+
+pub given-kept-again : (s : State) (m : Move) (mask : ℕ) → (performAgain s m mask) .given ≡ s .given
+unfolding perform performAgain putDigit withNotes
+given-kept-again s (Place row column digit) mask = refl
+given-kept-again s (Erase row column) mask = refl
+given-kept-again s (WriteMark row column digit) mask = refl
+given-kept-again s (StrikeMark row column digit) mask = refl
+
+pub given-kept-back : (s : State) (m : Move) (digitBefore mask : ℕ) → (takeBack s m digitBefore mask) .given ≡ s .given
+unfolding takeBack putDigit withNotes
+given-kept-back s (Place row column digit) digitBefore mask = refl
+given-kept-back s (Erase row column) digitBefore mask = refl
+given-kept-back s (WriteMark row column digit) digitBefore mask = refl
+given-kept-back s (StrikeMark row column digit) digitBefore mask = refl
+
 -- ---- what the slot finds
 
 -- the digit and the marks that a move changed stand as it left them
@@ -278,16 +278,11 @@ stands-left s (Place row column digit) f a =
     on : isCell (cellOf row column) ≡ true
     on = cell-of-is-cell row column (a .grid)
 
-    from : (n : ℕ) → Entry (peersOf (cellOf row column)) n → 1 ≤ n
-    from n w = omega (arith, w .is, peers-within (cellOf row column) on (w .at) (w .within) .0)
-
     gone : (n : ℕ) → isIn n (peersOf (cellOf row column)) ≡ true
         → contains (at (strikeAll (s .notes) digit (peersOf (cellOf row column))) n) digit ≡ false
     gone n h =
-        strike-all-mark (s .notes) digit (peersOf (cellOf row column)) n digit (peers-in s f (cellOf row column) on)
-        (from n (in-at n (peersOf (cellOf row column)) h))
-        ∙ both-false-right (contains (at (s .notes) n) digit) (not (both (eqb digit digit) (isIn n (peersOf (cellOf row column)))))
-        (ap not (both-true (eqb digit digit) (isIn n (peersOf (cellOf row column))) (eq-eqb digit digit refl) h))
+        let q : isCell n ≡ true = in-cells (cellOf row column) on n h in
+        place-struck s row column (a .grid) (f .digits-81) (f .notes-81) digit n q (sym (in-peers (cellOf row column) on n q) ∙ h)
 stands-left s (Erase row column) f a =
     eq-eqb (at (put (s .digits) (cellOf row column) 0) (cellOf row column)) 0
     (at-put (s .digits) (cellOf row column) 0 (f .digits-81) (cell-of-is-cell row column (a .grid)))

@@ -1,19 +1,19 @@
 -- What striking and writing a mark does to notes kept in a list, for any list of cells and a list of notes of any length: mark by mark and cell by cell.
 -- The mask of those that have the mark; striking again what the mask names strikes the same; writing what the mask names gives the notes back.
 -- Assumes nothing.
-use Prim.Native.Nat.{ℕ, zero, suc, _+_, _-_, _*_, _/_, _%_, _^_, _≤_, _<_}
+use Prim.Native.Nat.{ℕ, zero, suc, _+_, _*_, _/_, _%_, _^_, _≤_, _<_}
 use mathlib.Core.Path.{_≡_, refl, sym, ap, subst, _∙_}
 use mathlib.Core.Bool.{Bool, true, false, not}
 use mathlib.Core.List.{List, [], _∷_}
 use native.Mathlib.Nat.{div-one, div-div-eq-div-mul, pow-suc, pow-succ', le-of-suc-le-suc, not-suc-le-zero}
 use native.Mathlib.Omega.{arith}
-use borrow.Author.Tests.{eqb-true, eqb-false, eq-eqb, ne-eqb}
+use borrow.Author.Tests.{eqb-true, eq-eqb, ne-eqb}
 use lib.Dec.{eqb}
 use lib.ListN.{length, getD}
 use lib.Seq.{ext-getD}
 use Rattle.sudoku.specs.Tests.{pick, both, either, bit}
 use Rattle.sudoku.specs.Grid.{inRange, at, put}
-use Rattle.sudoku.proofs.Walks.{by-test, bit-le, same-test, not-both-ways, pick-true, pick-false, both-true, both-left, both-right, both-first, both-second, both-false-left, both-false-right, either-left, either-right, either-first, either-second, either-false, either-false-left, either-false-right, either-cases, Entry}
+use Rattle.sudoku.proofs.Walks.{by-test, bit-le, not-both-ways, pick-true, pick-false, both-true, both-left, both-right, both-first, both-second, both-false-left, both-false-right, either-left, either-right, either-first, either-second, either-false-left, either-false-right, either-cases, Entry}
 use Rattle.sudoku.proofs.Grid.{at-put-within, length-put, put-put, put-at}
 use Rattle.note.specs.Note.{contains, withMark, without, isNote}
 use Rattle.note.proofs.Note.{contains-struck, contains-written, isNote-with, isNote-without, same-marks, strike-write, write-strike}

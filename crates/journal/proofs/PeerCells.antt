@@ -1,14 +1,14 @@
 -- The twenty peers of a cell as a list of note cells: each is one of the 81, none stands there twice, and a cell is among them exactly where it is a peer.
 -- Assumes nothing.
-use Prim.Native.Nat.{ℕ, _/_, _%_, _^_, _≤_, _<_}
-use mathlib.Core.Path.{_≡_, sym, subst, _∙_}
-use mathlib.Core.Bool.{true, false}
+use Prim.Native.Nat.{ℕ, _/_, _%_, _^_, _<_}
+use mathlib.Core.Path.{_≡_, subst}
+use mathlib.Core.Bool.{true}
 use native.Mathlib.Omega.{arith}
 use lib.Dec.{eqb}
-use lib.ListN.{length, getD}
+use lib.ListN.{getD}
 use Rattle.sudoku.specs.Grid.{isCell, arePeers, peersOf}
 use Rattle.sudoku.proofs.Walks.{same-test, Entry}
-use Rattle.sudoku.proofs.Grid.{peers-from, peers-to, peers-apart, peers-length, peers-peer, peers-has, PeerAt}
+use Rattle.sudoku.proofs.Grid.{peers-from, peers-to, peers-cell, peers-apart, peers-length, peers-peer, peers-has, PeerAt}
 use Rattle.journal.proofs.NoteCells.{isIn, isMasked, Within, Apart, in-at, in-of, masked-at}
 
 module _ (cell : ℕ) (p : isCell cell ≡ true) where
@@ -19,6 +19,13 @@ module _ (cell : ℕ) (p : isCell cell ≡ true) where
   -- no two are one
   pub peers-distinct : Apart (peersOf cell)
   peers-distinct i j h u n e = peers-apart cell p i j (omega (arith, peers-length cell)) (omega (arith, peers-length cell)) n e
+
+  -- what is among them is a cell
+  pub in-cells : (n : ℕ) → isIn n (peersOf cell) ≡ true → isCell n ≡ true
+  in-cells n h = entry (in-at n (peersOf cell) h)
+    where
+      entry : Entry (peersOf cell) n → isCell n ≡ true
+      entry w = subst (λ (k : ℕ). isCell k ≡ true) (w .is) (peers-cell cell p (w .at) (omega (arith, w .within, peers-length cell)))
 
   -- a cell is among them exactly where it is a peer
   pub in-peers : (n : ℕ) → isCell n ≡ true → isIn n (peersOf cell) ≡ arePeers cell n

@@ -4,7 +4,6 @@
 use Prim.Native.Nat.{ℕ, _/_, _%_, _^_, _≤_, _<_}
 use mathlib.Core.Path.{_≡_, refl, sym, ap, subst, _∙_}
 use mathlib.Core.Bool.{Bool, true, false, not}
-use mathlib.Core.List.{List}
 use native.Mathlib.Omega.{arith}
 use borrow.Author.Tests.{eq-eqb, ne-eqb}
 use lib.Dec.{eqb}
@@ -17,7 +16,7 @@ use Rattle.note.specs.Note.{contains}
 use Rattle.puzzle.specs.Puzzle.{settled}
 use Rattle.journal.specs.declared.Move.the-variants.{Place, Erase, WriteMark, StrikeMark}
 use Rattle.journal.specs.State.{State, digitAt, noteAt, withNotes, putDigit, perform, struck, performAgain, takeBack}
-use Rattle.journal.proofs.NoteCells.{isIn, isMasked, Within, strike-all-mark, strike-masked-mark, write-masked-mark, strike-at-mark, write-at-mark, strike-all-elsewhere, strike-masked-elsewhere, write-masked-elsewhere, holders-bit}
+use Rattle.journal.proofs.NoteCells.{Within, strike-all-mark, strike-masked-mark, write-masked-mark, strike-at-mark, write-at-mark, strike-all-elsewhere, strike-masked-elsewhere, write-masked-elsewhere, holders-bit}
 use Rattle.journal.proofs.PeerCells.{peers-within, in-peers, peer-masked}
 
 -- a digit put into a cell, at each cell
