@@ -7,3 +7,10 @@ pub mod Units
 pub mod Computing
 pub mod FullJournal
 pub mod Positions
+pub mod Reached
+pub mod OneLeft
+pub mod Good
+pub mod Held
+pub mod Steps
+pub mod Lists
+pub mod Replay
