@@ -14,3 +14,7 @@ pub mod Held
 pub mod Steps
 pub mod Lists
 pub mod Replay
+pub mod Asks
+pub mod Clean
+pub mod Reopening
+pub mod CallsFor

@@ -91,25 +91,30 @@ module _ (givens : List Given) (solution : List ℕ) where
       ∙ ap (λ (l : List Move). bookOf l (length l) cs) (append-assoc old (m ∷ []) ms)
 
   -- the first move made where none stands drops all that there are
-  pub makes : (m : Move) (ms old : List Move) (cs : List Stored) → Plays (opening givens) (m ∷ ms) → length (m ∷ ms) ≤ maxMoves
+  makes : (m : Move) (ms old : List Move) (cs : List Stored) → Plays (opening givens) (m ∷ ms) → length (m ∷ ms) ≤ maxMoves
       → keep (bookOf old 0 cs) (map Make (m ∷ ms)) ≡ bookOf (m ∷ ms) (length (m ∷ ms)) cs
   unfolding keep Plays performAll bookOf stateIn taken withMoves
   makes m ms old cs p h =
       ap (λ (k : Book). keep k (map Make ms)) (step-taken (bookOf old 0 cs) (Make m) (make-accepted (bookOf old 0 cs) m (p .0) (omega arith)))
       ∙ makes-more ms (m ∷ []) cs (p .1) (omega arith)
 
+  pub makes-some : (ms old : List Move) (cs : List Stored) → Plays (opening givens) ms → length ms ≤ maxMoves → 1 ≤ length ms
+      → keep (bookOf old 0 cs) (map Make ms) ≡ bookOf ms (length ms) cs
+  makes-some [] old cs p h u = absurd (omega arith)
+  makes-some (m ∷ ms) old cs p h u = makes m ms old cs p h
+
   -- n moves taken back
   pub undos : (n standing : ℕ) (ms : List Move) (cs : List Stored)
-      → ((i : ℕ) → i ≤ n + standing → performAll (opening givens) (take i ms) .solved ≡ false)
+      → (1 ≤ n → (i : ℕ) → i ≤ n + standing → performAll (opening givens) (take i ms) .solved ≡ false)
       → keep (bookOf ms (n + standing) cs) (replicate n Undo) ≡ bookOf ms standing cs
   unfolding keep bookOf stateIn taken withMoves
   undos zero standing ms cs p = ap (λ (i : ℕ). bookOf ms i cs) (zero-add standing)
   undos (suc n) standing ms cs p =
       ap (λ (k : Book). keep k (replicate n Undo))
       (step-taken (bookOf ms (suc n + standing) cs) Undo
-      (undo-accepted (bookOf ms (suc n + standing) cs) (p (suc n + standing) (le-refl (suc n + standing))) (omega arith))
+      (undo-accepted (bookOf ms (suc n + standing) cs) (p (omega arith) (suc n + standing) (le-refl (suc n + standing))) (omega arith))
       ∙ ap (λ (i : ℕ). bookOf ms i cs) less)
-      ∙ undos n standing ms cs (λ i h. p i (omega arith))
+      ∙ undos n standing ms cs (λ u i h. p (omega arith) i (omega arith))
     where
       less : suc n + standing - 1 ≡ n + standing
       less = omega arith

@@ -5,9 +5,10 @@ use Prim.Native.Nat.{ℕ, zero, suc, _+_, _-_, _*_, _≤_, _<_, min}
 use mathlib.Core.Path.{_≡_, refl, sym, ap, subst, _∙_}
 use mathlib.Core.Bool.{Bool, true, false, not}
 use mathlib.Core.List.{List, [], _∷_, _++_, append-assoc, append-nil}
+use native.Mathlib.Nat.{zero-add}
 use native.Mathlib.Omega.{arith}
 use lib.Dec.{eqb, leb, ltb}
-use lib.ListN.{length, take, length-append}
+use lib.ListN.{length, take, length-append, length-replicate}
 use lib.Seq.{take-all}
 use borrow.Author.Tests.{eq-eqb, eqb-true, lt-leb, ltb-true, ltb-false}
 use Rattle.sudoku.specs.Tests.{first, pick}
@@ -21,10 +22,11 @@ use Rattle.journal.specs.Counts.{counts, recorded}
 use Rattle.journal.specs.Bytes.{over}
 use Rattle.journal.specs.State.{State, opening, perform}
 use Rattle.journal.specs.Slots.{slotFor, bytesOf}
-use Rattle.journal.proofs.Memory.{over-join}
+use Rattle.journal.proofs.Memory.{over-nil, over-join}
 use Rattle.board.specs.declared.Board.{Board}
 use Rattle.board.specs.declared.Answer.{Answer}
-use Rattle.board.specs.Board.{stateOf, countsOf, boardOf, moved}
+use Rattle.board.specs.Board.{stateOf, countsOf, boardOf, moved, fresh}
+use Rattle.board.specs.Open.{noMoves}
 use Rattle.play.specs.Play.{Played, played, moveTests, recordMove, undoOf}
 use Rattle.record.specs.Reopen.{replay, takeBackAll}
 use Rattle.session.specs.declared.Call.the-variants.{Undo}
@@ -122,6 +124,21 @@ module _ (solution : List ℕ) (memory : List ℕ) where
       (sym
       (ap (λ (x : Played). isAccepted (x .answer .refusal))
       (pick-false (allStand solution s i .solved) _ _ t ∙ pick-false (eqb (first (moveTests (stateOf (allStand solution s i)) m)) 0) _ _ v)) ∙ p) refl)))
+
+-- on the fresh board
+pub replay-fresh : (givens : List Given) (solution : List ℕ) (ms : List Move) → Plays (opening givens) ms → length ms ≤ maxMoves
+    → replay (fresh givens solution) noMoves 1 ms
+    ≡ played accepted (allStand solution (performAll (opening givens) ms) (length ms)) (over noMoves 0 (slotsFrom (opening givens) ms))
+unfolding fresh allStand noMoves
+replay-fresh givens solution ms p h =
+    ap (λ (l : List ℕ). replay (fresh givens solution) l 1 ms) (sym (over-nil noMoves 0))
+    ∙ replay-plays solution noMoves (opening givens) ms 0 1 [] p (omega arith) refl (length-replicate {A = ℕ} journalBytes 0)
+    ∙ ap (λ (n : ℕ). played accepted (allStand solution (performAll (opening givens) ms) n) (over noMoves 0 (slotsFrom (opening givens) ms))) (zero-add (length ms))
+
+pub replay-fresh-plays : (givens : List Given) (solution : List ℕ) (ms : List Move) → length ms ≤ maxMoves
+    → isAccepted (replay (fresh givens solution) noMoves 1 ms .answer .refusal) ≡ true → Plays (opening givens) ms
+unfolding fresh allStand
+replay-fresh-plays givens solution ms h p = replay-accepted solution noMoves (opening givens) ms 0 1 noMoves (omega arith) p
 
 -- ---- taking back
 
