@@ -3,3 +3,4 @@ pub mod WriteBack
 pub mod Lengths
 pub mod Givens
 pub mod Readable
+pub mod Held

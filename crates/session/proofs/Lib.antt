@@ -18,3 +18,4 @@ pub mod Asks
 pub mod Clean
 pub mod Reopening
 pub mod CallsFor
+pub mod Slots
