@@ -4,6 +4,7 @@ use crate::Board;
 use journal::CHECK_MEMORY;
 use journal::JOURNAL_BYTES;
 use puzzle::Layout;
+use puzzle::answer::accepted;
 use puzzle::answer::refusal;
 use puzzle::given_bytes::mark_givens;
 use puzzle::given_bytes::put_givens;
@@ -105,7 +106,7 @@ fn opened(givens: &[u8], solution: &[u8]) -> Answer
         };
     }
     Answer {
-        refusal: refusal(0, 0, 0),
+        refusal: accepted(),
         board: fresh(givens, Layout::Triples, count, solution),
     }
 }

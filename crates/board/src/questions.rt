@@ -8,13 +8,16 @@ use crate::cell;
 use crate::value::is_board;
 use journal::notes::note_at;
 use journal::slots::is_given;
-use puzzle::Refusal;
+use puzzle::answer::accepted;
+use puzzle::answer::refusal;
 use puzzle::digit_at;
 use puzzle::holds_digit;
 use sudoku::cell_of;
 use sudoku::in_range;
 use sudoku::on_grid;
 ghost use mathlib.Core.Path.{_≡_};
+ghost use mathlib.Core.Bool.{not};
+ghost use Rattle.sudoku.specs.Tests.{both};
 ghost use Rattle.board.specs.Board.{stateOf};
 ghost use Rattle.board.specs.Questions.{boardNumber, cellNumber, keyNumber, yesNo, cellAnswer, noCell, cellQuestion, conflictsQuestion, acceptsMarksQuestion, playersDigitQuestion, statusQuestion, fullQuestion, consistentQuestion, canUndoQuestion, canRedoQuestion, leftQuestion};
 
@@ -57,20 +60,12 @@ fn yes_no(number: u8, holds: bool) -> YesNo
 {
     if number == 0 {
         return YesNo {
-            refusal: Refusal {
-                number: 0,
-                place: 0,
-                inner: 0,
-            },
+            refusal: accepted(),
             holds: holds,
         };
     }
     YesNo {
-        refusal: Refusal {
-            number: number,
-            place: 0,
-            inner: 0,
-        },
+        refusal: refusal(number, 0, 0),
         holds: false,
     }
 }
@@ -79,11 +74,7 @@ fn no_cell(number: u8) -> CellAnswer
     ensures { λ r. ⌜ r ≡ noCell number ⌝ }
 {
     CellAnswer {
-        refusal: Refusal {
-            number: number,
-            place: 0,
-            inner: 0,
-        },
+        refusal: refusal(number, 0, 0),
         digit: 0,
         given: false,
         conflicting: false,
@@ -101,11 +92,7 @@ fn cell_answer(board: Board, cell: usize) -> CellAnswer
     let conflicting = puzzle::conflicts(&board.digits, cell);
     let note = note_at(&board.notes, cell);
     CellAnswer {
-        refusal: Refusal {
-            number: 0,
-            place: 0,
-            inner: 0,
-        },
+        refusal: accepted(),
         digit: digit,
         given: given,
         conflicting: conflicting,
@@ -178,26 +165,29 @@ pub fn is_consistent(board: Board) -> YesNo
     yes_no(number, puzzle::is_consistent(&board.digits))
 }
 
-// Whether a move stands to be taken back. None is on a solved board.
+// Whether a move is there to be taken back or made again. On a solved board none is.
+fn unless_solved(board: Board, there: bool) -> YesNo
+    ensures { λ r. ⌜ r ≡ yesNo (boardNumber board) (both (not (board .solved)) there) ⌝ }
+{
+    let number = board_number(board);
+    if board.solved {
+        return yes_no(number, false);
+    }
+    yes_no(number, there)
+}
+
+// Whether a move stands to be taken back.
 pub fn can_undo(board: Board) -> YesNo
     ensures { λ r. ⌜ r ≡ canUndoQuestion board ⌝ }
 {
-    let number = board_number(board);
-    if board.solved {
-        return yes_no(number, false);
-    }
-    yes_no(number, board.standing > 0)
+    unless_solved(board, board.standing > 0)
 }
 
-// Whether an undone move is there to be made again. None is on a solved board.
+// Whether an undone move is there to be made again.
 pub fn can_redo(board: Board) -> YesNo
     ensures { λ r. ⌜ r ≡ canRedoQuestion board ⌝ }
 {
-    let number = board_number(board);
-    if board.solved {
-        return yes_no(number, false);
-    }
-    yes_no(number, board.standing < board.made)
+    unless_solved(board, board.standing < board.made)
 }
 
 // The keypad: digits left for a key, nine less the cells that hold the digit, never below 0.
@@ -207,21 +197,13 @@ pub fn digits_left(board: Board, digit: u8) -> Left
     let number = key_number(board, digit);
     if number != 0 {
         return Left {
-            refusal: Refusal {
-                number: number,
-                place: 0,
-                inner: 0,
-            },
+            refusal: refusal(number, 0, 0),
             left: 0,
         };
     }
     let left = puzzle::digits_left(&board.digits, digit);
     Left {
-        refusal: Refusal {
-            number: 0,
-            place: 0,
-            inner: 0,
-        },
+        refusal: accepted(),
         left: left,
     }
 }

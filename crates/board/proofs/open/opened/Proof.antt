@@ -14,14 +14,14 @@ zero-board-requires c κs = search needs
 returns : tie.Need-returns
 returns c = rw (c .zero-board .ensures) (opened-refused (c .before .before .before .before .before .before .args .givens .now) (c .before .before .before .before .before .before .args .solution .now) (c .before .before .before .well-posed .result) (c .before .before .before .well-posed .ensures) (c .before .if1 .taken))
 
-refusal-requires : tie.Need-refusal-requires
-refusal-requires c κs = search needs
+accepted-requires : tie.Need-accepted-requires
+accepted-requires c κs = search needs
 
 fresh-requires : tie.Need-fresh-requires
 fresh-requires c κs = search needs
 
 returns-2 : tie.Need-returns-2
-returns-2 c = rw (c .before .refusal .ensures, c .fresh .ensures) (opened-fresh (c .before .before .before .before .before .before .before .args .givens .now) (c .before .before .before .before .before .before .before .args .solution .now) (c .before .before .before .before .well-posed .result) (c .before .before .before .before .well-posed .ensures) (c .before .before .if1 .left) (c .before .before .before .before .before .before .before .pre))
+returns-2 c = rw (c .before .accepted .ensures, c .fresh .ensures) (opened-fresh (c .before .before .before .before .before .before .before .args .givens .now) (c .before .before .before .before .before .before .before .args .solution .now) (c .before .before .before .before .well-posed .result) (c .before .before .before .before .well-posed .ensures) (c .before .before .if1 .left) (c .before .before .before .before .before .before .before .pre))
 
 pub opened-spec : {M : Type 1} → statement M
 opened-spec =
@@ -30,6 +30,6 @@ opened-spec =
     well-posed-requires
     zero-board-requires
     returns
-    refusal-requires
+    accepted-requires
     fresh-requires
     returns-2)

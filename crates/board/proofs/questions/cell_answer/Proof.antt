@@ -19,11 +19,20 @@ conflicts-requires c κs = search needs
 note-at-requires : tie.Need-note-at-requires
 note-at-requires c κs = search needs
 
+accepted-requires : tie.Need-accepted-requires
+accepted-requires c κs = search needs
+
 returns : tie.Need-returns
 unfolding cellAnswer stateOf givensOnly isGiven digitAt noteAt
-returns c = rw (c .before .before .before .before .before .before .before .before .before .digit-at .ensures, c .before .before .before .before .before .before .is-given .ensures, c .before .before .before .conflicts .ensures, c .note-at .ensures)
+returns c = rw (c .accepted .ensures, c .before .before .before .before .before .before .before .before .before .before .digit-at .ensures, c .before .before .before .before .before .before .before .is-given .ensures, c .before .before .before .before .conflicts .ensures, c .before .note-at .ensures)
 
 pub cell-answer-spec : {M : Type 1} → statement M
 cell-answer-spec =
     tie.close
-    (tie.spec digit-at-requires is-given-requires conflicts-requires note-at-requires returns)
+    (tie.spec
+    digit-at-requires
+    is-given-requires
+    conflicts-requires
+    note-at-requires
+    accepted-requires
+    returns)

@@ -1,13 +1,16 @@
 -- `board::questions::no_cell` meets its contract.
 -- Assumes nothing.
-use mathlib.Core.Path.{refl}
 use Rattle.board.specs.Questions.{noCell}
+use borrow.Author.Needs.{needs}
 use Rattle.board.proofs.questions.no_cell.Statement.{statement}
 use Rattle.board.proofs.questions.no_cell.Tie as tie
 
+refusal-requires : tie.Need-refusal-requires
+refusal-requires c κs = search needs
+
 returns : tie.Need-returns
 unfolding noCell
-returns c = refl
+returns c = rw (c .refusal .ensures)
 
 pub no-cell-spec : {M : Type 1} → statement M
-no-cell-spec = tie.close (tie.spec returns)
+no-cell-spec = tie.close (tie.spec refusal-requires returns)
