@@ -194,6 +194,21 @@ pub bytes-length : (slot : Slot) → length (bytesOf slot) ≡ slotBytes
 unfolding bytesOf
 bytes-length slot = refl
 
+-- a memory that has a slot's bytes at slot n has the slot there
+pub slot-read : (l : List ℕ) (n : ℕ) (slot : Slot) → slot .struck < 2 ^ 24
+    → ((i : ℕ) → i < slotBytes → getD l (slotStart n + i) 0 ≡ getD (bytesOf slot) i 0) → slotAt l n ≡ slot
+unfolding slotAt bytesOf
+slot-read l n slot small h =
+    λ j.
+    record {
+      kind = (ap (λ (i : ℕ). getD l i 0) (sym (add-zero (slotStart n))) ∙ h 0 (omega arith)) j;
+      row = h 1 (omega arith) j;
+      column = h 2 (omega arith) j;
+      digit = h 3 (omega arith) j;
+      before = h 4 (omega arith) j;
+      struck = ((λ i. three (h 5 (omega arith) i) (h 6 (omega arith) i) (h 7 (omega arith) i)) ∙ three-bytes (slot .struck) small) j;
+    }
+
 -- slot n is read from its eight bytes alone
 pub slot-same : (l k : List ℕ) (n : ℕ) → ((i : ℕ) → i < slotBytes → getD l (slotStart n + i) 0 ≡ getD k (slotStart n + i) 0) → slotAt l n ≡ slotAt k n
 unfolding slotAt
@@ -213,21 +228,6 @@ pub slot-part-same : (l k : List ℕ) (n : ℕ) → length l ≡ length k
     → ((i : ℕ) → i < slotBytes → getD l (slotStart n + i) 0 ≡ getD k (slotStart n + i) 0) → slotPart l n ≡ slotPart k n
 unfolding slotPart
 slot-part-same l k n e h = part-same l k (slotStart n) slotBytes e h
-
--- a memory that has a slot's bytes at slot n has the slot there
-pub slot-read : (l : List ℕ) (n : ℕ) (slot : Slot) → slot .struck < 2 ^ 24
-    → ((i : ℕ) → i < slotBytes → getD l (slotStart n + i) 0 ≡ getD (bytesOf slot) i 0) → slotAt l n ≡ slot
-unfolding slotAt bytesOf
-slot-read l n slot small h =
-    λ j.
-    record {
-      kind = (ap (λ (i : ℕ). getD l i 0) (sym (add-zero (slotStart n))) ∙ h 0 (omega arith)) j;
-      row = h 1 (omega arith) j;
-      column = h 2 (omega arith) j;
-      digit = h 3 (omega arith) j;
-      before = h 4 (omega arith) j;
-      struck = ((λ i. three (h 5 (omega arith) i) (h 6 (omega arith) i) (h 7 (omega arith) i)) ∙ three-bytes (slot .struck) small) j;
-    }
 
 -- where a slot of eight bytes is written after n slots
 module _ (journal : List ℕ) (n : ℕ) (bytes : List ℕ) (eight : length bytes ≡ slotBytes) (fits : slotBytes * (n + 1) ≤ length journal) where

@@ -19,6 +19,61 @@ use Rattle.journal.specs.State.{State, digitAt, noteAt, withNotes, putDi
 use Rattle.journal.proofs.NoteCells.{Within, strike-all-mark, strike-masked-mark, write-masked-mark, strike-at-mark, write-at-mark, strike-all-elsewhere, strike-masked-elsewhere, write-masked-elsewhere, holders-bit}
 use Rattle.journal.proofs.PeerCells.{peers-within, in-peers, peer-masked}
 
+-- ---- what a move does not touch, at any position
+
+module _ (s : State) (row column : ℕ) where
+  -- erasing touches no note and settles nothing
+  pub erase-notes : (perform s (Erase row column)) .notes ≡ s .notes
+  unfolding perform putDigit
+  erase-notes = refl
+
+  pub erase-status : (perform s (Erase row column)) .solved ≡ s .solved
+  unfolding perform putDigit
+  erase-status = pick-true (eqb 0 0) (s .solved) (settled (put (s .digits) (cellOf row column) 0) (s .solved)) refl
+
+  pub back-erase-notes : (digitBefore mask : ℕ) → (takeBack s (Erase row column) digitBefore mask) .notes ≡ s .notes
+  unfolding takeBack putDigit
+  back-erase-notes digitBefore mask = refl
+
+  -- marks touch no digit and settle nothing
+  module _ (digit : ℕ) where
+    pub write-digits : (perform s (WriteMark row column digit)) .digits ≡ s .digits
+    unfolding perform withNotes
+    write-digits = refl
+
+    pub strike-digits : (perform s (StrikeMark row column digit)) .digits ≡ s .digits
+    unfolding perform withNotes
+    strike-digits = refl
+
+    pub write-status : (perform s (WriteMark row column digit)) .solved ≡ s .solved
+    unfolding perform withNotes
+    write-status = refl
+
+    pub strike-status : (perform s (StrikeMark row column digit)) .solved ≡ s .solved
+    unfolding perform withNotes
+    strike-status = refl
+
+    pub back-write-digits : (digitBefore mask : ℕ) → (takeBack s (WriteMark row column digit) digitBefore mask) .digits ≡ s .digits
+    unfolding takeBack withNotes
+    back-write-digits digitBefore mask = refl
+
+    pub back-strike-digits : (digitBefore mask : ℕ) → (takeBack s (StrikeMark row column digit) digitBefore mask) .digits ≡ s .digits
+    unfolding takeBack withNotes
+    back-strike-digits digitBefore mask = refl
+
+    -- and performed again they do what they do
+    pub again-write : (mask : ℕ) → performAgain s (WriteMark row column digit) mask ≡ perform s (WriteMark row column digit)
+    unfolding performAgain
+    again-write mask = refl
+
+    pub again-strike : (mask : ℕ) → performAgain s (StrikeMark row column digit) mask ≡ perform s (StrikeMark row column digit)
+    unfolding performAgain
+    again-strike mask = refl
+
+  pub again-erase : (mask : ℕ) → performAgain s (Erase row column) mask ≡ perform s (Erase row column)
+  unfolding performAgain
+  again-erase mask = refl
+
 -- a digit put into a cell, at each cell
 put-digit : (s : State) (cell d n : ℕ) → length (s .digits) ≡ 81 → isCell cell ≡ true → isCell n ≡ true → digitAt (putDigit s cell d) n ≡ pick (eqb n cell) d (digitAt s n)
 unfolding putDigit digitAt
@@ -170,58 +225,3 @@ module _ (s : State) (row column : ℕ) (grid : onGrid row column ≡ true) (dig
       → digitAt (takeBack s (Erase row column) digitBefore mask) n ≡ pick (eqb n (cellOf row column)) digitBefore (digitAt s n)
   unfolding takeBack
   back-erase-digit digitBefore mask n q = put-digit s (cellOf row column) digitBefore n digits-81 on q
-
--- ---- what a move does not touch, at any position
-
-module _ (s : State) (row column : ℕ) where
-  -- erasing touches no note and settles nothing
-  pub erase-notes : (perform s (Erase row column)) .notes ≡ s .notes
-  unfolding perform putDigit
-  erase-notes = refl
-
-  pub erase-status : (perform s (Erase row column)) .solved ≡ s .solved
-  unfolding perform putDigit
-  erase-status = pick-true (eqb 0 0) (s .solved) (settled (put (s .digits) (cellOf row column) 0) (s .solved)) refl
-
-  pub back-erase-notes : (digitBefore mask : ℕ) → (takeBack s (Erase row column) digitBefore mask) .notes ≡ s .notes
-  unfolding takeBack putDigit
-  back-erase-notes digitBefore mask = refl
-
-  -- marks touch no digit and settle nothing
-  module _ (digit : ℕ) where
-    pub write-digits : (perform s (WriteMark row column digit)) .digits ≡ s .digits
-    unfolding perform withNotes
-    write-digits = refl
-
-    pub strike-digits : (perform s (StrikeMark row column digit)) .digits ≡ s .digits
-    unfolding perform withNotes
-    strike-digits = refl
-
-    pub write-status : (perform s (WriteMark row column digit)) .solved ≡ s .solved
-    unfolding perform withNotes
-    write-status = refl
-
-    pub strike-status : (perform s (StrikeMark row column digit)) .solved ≡ s .solved
-    unfolding perform withNotes
-    strike-status = refl
-
-    pub back-write-digits : (digitBefore mask : ℕ) → (takeBack s (WriteMark row column digit) digitBefore mask) .digits ≡ s .digits
-    unfolding takeBack withNotes
-    back-write-digits digitBefore mask = refl
-
-    pub back-strike-digits : (digitBefore mask : ℕ) → (takeBack s (StrikeMark row column digit) digitBefore mask) .digits ≡ s .digits
-    unfolding takeBack withNotes
-    back-strike-digits digitBefore mask = refl
-
-    -- and performed again they do what they do
-    pub again-write : (mask : ℕ) → performAgain s (WriteMark row column digit) mask ≡ perform s (WriteMark row column digit)
-    unfolding performAgain
-    again-write mask = refl
-
-    pub again-strike : (mask : ℕ) → performAgain s (StrikeMark row column digit) mask ≡ perform s (StrikeMark row column digit)
-    unfolding performAgain
-    again-strike mask = refl
-
-  pub again-erase : (mask : ℕ) → performAgain s (Erase row column) mask ≡ perform s (Erase row column)
-  unfolding performAgain
-  again-erase mask = refl
