@@ -536,3 +536,39 @@ verdict-listed (c ∷ cs) rest (suc i) none h =
     ∙ ap (λ (k : ℕ). verdictByte (storedBytes c ++ (storedAll cs ++ rest)) k) {x = suc i + 1} {y = i + 1 + 1} (omega arith)
     ∙ verdict-later (storedBytes c) (storedAll cs ++ rest) (i + 1) (stored-length c) (omega arith)
     ∙ verdict-listed cs rest i none (le-of-suc-le-suc h)
+
+-- ---- parts of a journal that begins with slots' bytes
+
+-- the parts of slots 1 to n lie in the first n slots' bytes
+pub slot-part-take : (journal : List ℕ) (n k : ℕ) → 1 ≤ k → k ≤ n → slotPart (take (slotBytes * n) journal) k ≡ slotPart journal k
+unfolding slotPart part slotStart
+slot-part-take journal n k f t =
+    ext-getD 0 (take slotBytes (drop (slotBytes * (k - 1)) (take (slotBytes * n) journal))) (take slotBytes (drop (slotBytes * (k - 1)) journal))
+    (omega (arith, left, right, length-drop (slotBytes * (k - 1)) (take (slotBytes * n) journal), length-drop (slotBytes * (k - 1)) journal, length-take (slotBytes * n) journal))
+    (λ i u. inner i (omega (arith, u, left)))
+  where
+    left : length (take slotBytes (drop (slotBytes * (k - 1)) (take (slotBytes * n) journal))) ≡ min slotBytes (length (drop (slotBytes * (k - 1)) (take (slotBytes * n) journal)))
+    left = length-take slotBytes (drop (slotBytes * (k - 1)) (take (slotBytes * n) journal))
+
+    right : length (take slotBytes (drop (slotBytes * (k - 1)) journal)) ≡ min slotBytes (length (drop (slotBytes * (k - 1)) journal))
+    right = length-take slotBytes (drop (slotBytes * (k - 1)) journal)
+
+    inner : (i : ℕ) → i < slotBytes
+        → getD (take slotBytes (drop (slotBytes * (k - 1)) (take (slotBytes * n) journal))) i 0 ≡ getD (take slotBytes (drop (slotBytes * (k - 1)) journal)) i 0
+    inner i u =
+        getD-take slotBytes (drop (slotBytes * (k - 1)) (take (slotBytes * n) journal)) i 0 u
+        ∙ getD-drop (slotBytes * (k - 1)) (take (slotBytes * n) journal) i 0
+        ∙ getD-take (slotBytes * n) journal (slotBytes * (k - 1) + i) 0 (omega arith)
+        ∙ sym (getD-drop (slotBytes * (k - 1)) journal i 0)
+        ∙ sym (getD-take slotBytes (drop (slotBytes * (k - 1)) journal) i 0 u)
+
+-- the part that stands behind n slots' bytes
+pub slot-part-behind : (front : List ℕ) (n : ℕ) (slot : Slot) (rest : List ℕ) → length front ≡ slotBytes * n → slotPart (front ++ bytesOf slot ++ rest) (n + 1) ≡ bytesOf slot
+unfolding slotPart part slotStart
+slot-part-behind front n slot rest e =
+    (λ j. take slotBytes (drop (starts j) (append-assoc front (bytesOf slot) rest j)))
+    ∙ ap (λ (l : List ℕ). take slotBytes l) (drop-at front (bytesOf slot ++ rest) (slotBytes * n) e)
+    ∙ take-at (bytesOf slot) rest slotBytes (bytes-length slot)
+  where
+    starts : slotBytes * (n + 1 - 1) ≡ slotBytes * n
+    starts = omega arith
