@@ -10,12 +10,16 @@ pub mod Positions
 pub mod Reached
 pub mod OneLeft
 pub mod Good
+pub mod Slots
 pub mod Held
 pub mod Steps
 pub mod Lists
 pub mod Replay
 pub mod Asks
 pub mod Clean
+pub mod Writing
 pub mod Reopening
 pub mod CallsFor
-pub mod Slots
+pub mod Accepting
+pub mod Demand3
+pub mod Solved

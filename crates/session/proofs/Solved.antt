@@ -1,0 +1,41 @@
+-- Demand 2's theorem, proved: a board played from its opening is solved exactly when every row, column and box holds each of 1 to 9 once.
+-- Assumes nothing.
+use Prim.Native.Nat.{ℕ}
+use mathlib.Core.Path.{_≡_, sym, subst}
+use mathlib.Core.Bool.{true}
+use mathlib.Core.Logic.{_↔_}
+use mathlib.Core.List.{List}
+use lib.ListN.{take}
+use Rattle.puzzle.specs.declared.Given.{Given}
+use Rattle.journal.specs.State.{State}
+use Rattle.journal.proofs.Moves.{Fit}
+use Rattle.board.specs.Board.{boardOf}
+use Rattle.board.specs.Open.{openedFresh}
+use Rattle.session.specs.declared.Call.{Call}
+use Rattle.session.specs.Session.{Session, after, started}
+use Rattle.session.specs.Book.{Book, newBook, stateIn, keep}
+use Rattle.session.specs.Opens.{Opens}
+use Rattle.session.specs.Demand3.{boardIn}
+use Rattle.session.specs.Solved.{EachOnce, SolvedTheorem}
+use Rattle.session.proofs.Units.{fit-solved}
+use Rattle.session.proofs.Reached.{reached-fit}
+use Rattle.session.proofs.Good.{Good, good-new, good-keep, standing-plays}
+use Rattle.session.proofs.Lists.{session-left}
+
+-- every book's position is fit
+pub good-fit : (k : Book) → Good k → Fit (stateIn k)
+unfolding stateIn
+good-fit k g = reached-fit (k .givens) (k .solution) (g .opens) (take (k .standing) (k .moves)) (standing-plays k g)
+
+board-solved : (k : Book) → Good k → (boardIn k .solved ≡ true) ↔ EachOnce (boardIn k .digits)
+unfolding boardIn boardOf
+board-solved k g = fit-solved (stateIn k) (good-fit k g)
+
+pub solved-theorem : SolvedTheorem
+solved-theorem =
+    record {
+      exactly =
+          λ givens solution calls o.
+          subst (λ (s : Session). (s .board .solved ≡ true) ↔ EachOnce (s .board .digits)) (sym (session-left givens solution calls o))
+          (board-solved (keep (newBook givens solution) calls) (good-keep (newBook givens solution) calls (good-new givens solution o)));
+    }
