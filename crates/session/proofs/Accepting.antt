@@ -1,6 +1,6 @@
 -- What an accepted reopening says: the bytes are a record whose givens open, whose moves play, whose undone count fits, and whose checks are admitted.
 -- Assumes nothing.
-use Prim.Native.Nat.{ℕ, _-_, _≤_, _<_}
+use Prim.Native.Nat.{ℕ}
 use mathlib.Core.Path.{_≡_, refl, sym, ap, subst, _∙_}
 use mathlib.Core.Bool.{Bool, true, false, not}
 use mathlib.Core.List.{List}
@@ -10,23 +10,20 @@ use borrow.Author.Tests.{eq-eqb, eqb-true}
 use Rattle.sudoku.specs.Tests.{pick, both}
 use Rattle.sudoku.proofs.Walks.{by-test, not-both-ways, both-true, pick-true, pick-false}
 use Rattle.sudoku.proofs.Each.{Each}
-use Rattle.puzzle.specs.declared.Given.{Given}
 use Rattle.puzzle.specs.declared.Refusal.{Refusal}
 use Rattle.puzzle.specs.Givens.{givenCells}
 use Rattle.puzzle.specs.Refusals.{refusal, accepted, isAccepted, refusedIf, orElse}
 use Rattle.puzzle.proofs.Accepted.{accepts, if-passed, or-else-left, or-else-right}
-use Rattle.journal.specs.declared.Move.{Move}
 use Rattle.journal.specs.Limits.{journalBytes, checkMemory}
 use Rattle.journal.specs.Bytes.{over}
-use Rattle.journal.specs.State.{State, opening}
+use Rattle.journal.specs.State.{opening}
 use Rattle.board.specs.declared.Board.{Board}
 use Rattle.board.specs.Board.{boardOf, fresh}
-use Rattle.board.specs.Open.{Opened, noMoves, lentLengths, turnedAway, wrongLength}
-use Rattle.play.specs.Play.{Played, played}
-use Rattle.record.specs.declared.Asked.{Asked}
+use Rattle.board.specs.Open.{Opened, noMoves, lentLengths, turnedAway}
+use Rattle.play.specs.Play.{Played}
 use Rattle.record.specs.Items.{Parts}
 use Rattle.record.specs.Scan.{partsOfBytes}
-use Rattle.record.specs.Reopen.{unreadable, replay, toPlay, checksRefusal, settledRecord, replayed, reopenOf, reopened, takeBackAll}
+use Rattle.record.specs.Reopen.{unreadable, replay, toPlay, checksRefusal, settledRecord, replayed, reopenOf}
 use Rattle.record.proofs.Readable.{Readable, readable}
 use Rattle.session.specs.Book.{performAll, slotsFrom}
 use Rattle.session.specs.Opens.{Opens}

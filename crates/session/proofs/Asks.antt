@@ -2,7 +2,7 @@
 -- right digit where one cell was to play.
 -- Assumes nothing.
 use Prim.Native.Nat.{ℕ, suc, _-_}
-use mathlib.Core.Path.{_≡_, refl, sym, _∙_}
+use mathlib.Core.Path.{_≡_, refl, _∙_}
 use mathlib.Core.Bool.{Bool, true, false, not}
 use mathlib.Core.List.{List, [], _∷_}
 use lib.Dec.{eqb}
@@ -12,7 +12,7 @@ use Rattle.sudoku.specs.Tests.{_⇒_, first, both, count}
 use Rattle.sudoku.proofs.Walks.{passed, no-if, not-is-false}
 use Rattle.sudoku.proofs.Each.{Each}
 use Rattle.sudoku.specs.Grid.{inRange, onGrid, cellOf}
-use Rattle.puzzle.specs.Refusals.{refusal, accepted, isAccepted, refusedIf, orElse}
+use Rattle.puzzle.specs.Refusals.{refusal, accepted, isAccepted}
 use Rattle.puzzle.proofs.Accepted.{accepts, if-not, if-passed, or-else-of, or-else-left, or-else-right}
 use Rattle.journal.specs.State.{isGiven}
 use Rattle.journal.specs.StoredChecks.{isRight}
@@ -20,6 +20,7 @@ use Rattle.board.specs.declared.Board.{Board}
 use Rattle.board.specs.Board.{stateOf}
 use Rattle.record.specs.declared.Asked.{Asked}
 use Rattle.record.specs.Reopen.{toPlay, checkRefusal, checksRefusal}
+use Rattle.session.proofs.Refusals.{first-none}
 
 pub record Asks (given : List Bool) (solution : List ℕ) (c : Asked) : Type 0 where
   pub grid : onGrid (c .row) (c .column) ≡ true
@@ -28,10 +29,6 @@ pub record Asks (given : List Bool) (solution : List ℕ) (c : Asked) : Type 0 w
   pub some : c .standing ≡ 0 → ⊥
   pub unfinished :
       both (isRight solution (cellOf (c .row) (c .column)) (c .digit)) (eqb (count (λ cell. not (getD given (cell - 1) false)) 81 1) 1) ≡ false
-
-none : first [] ≡ 0
-unfolding first
-none = refl
 
 module _ (b : Board) (k : ℕ) (c : Asked) where
   admits : Asks (b .given) (b .solution) c → checkRefusal b (toPlay b) k c ≡ accepted
@@ -45,7 +42,7 @@ module _ (b : Board) (k : ℕ) (c : Asked) where
       (no-if (not (onGrid (c .row) (c .column))) 3 _ (not-is-false _ (a .grid))
       ∙ no-if (getD (b .given) (cellOf (c .row) (c .column) - 1) false) 5 _ (a .free)
       ∙ no-if (not (inRange (c .digit))) 8 [] (not-is-false _ (a .range))
-      ∙ none)))))
+      ∙ first-none)))))
       (or-else-of _ _ (accepts _ (if-not _ (refusal 32 k 0) (ne-eqb (c .standing) 0 (a .some)))) (if-not _ (refusal 33 k 0) (a .unfinished)))
 
   admitted : isAccepted (checkRefusal b (toPlay b) k c) ≡ true → Asks (b .given) (b .solution) c

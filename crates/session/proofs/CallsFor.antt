@@ -1,16 +1,15 @@
 -- For a record that reopening accepts, calls from the fresh board that make a book of its moves, its undone count and its checks: a line of play for each
 -- check, undone again, then the moves, then as many undone.
 -- Assumes nothing.
-use Prim.Native.Nat.{ℕ, zero, suc, _+_, _-_, _*_, _≤_, _<_}
-use mathlib.Core.Path.{_≡_, refl, sym, ap, subst, _∙_}
-use mathlib.Core.Bool.{Bool, true, false, not}
+use Prim.Native.Nat.{ℕ, zero, suc, _+_, _-_, _≤_, _<_}
+use mathlib.Core.Path.{_≡_, refl, sym, ap, _∙_}
+use mathlib.Core.Bool.{true, false, not}
 use mathlib.Core.List.{List, [], _∷_, _++_, append-assoc, append-nil, map}
-use native.Mathlib.Nat.{le-refl}
 use native.Mathlib.Omega.{arith}
 use lib.Dec.{eqb, ltb}
 use lib.ListN.{length, take, replicate, length-append}
 use lib.Seq.{take-all}
-use borrow.Author.Tests.{eq-eqb, ne-eqb, eqb-true, eqb-false, ltb-true, ltb-false}
+use borrow.Author.Tests.{eq-eqb, eqb-true, eqb-false, ltb-true, ltb-false}
 use Rattle.sudoku.specs.Tests.{both, count}
 use Rattle.sudoku.proofs.Walks.{by-test, not-both-ways, both-true}
 use Rattle.sudoku.proofs.Each.{Each}
@@ -24,7 +23,7 @@ use Rattle.puzzle.specs.Puzzle.{isFull, isConsistent}
 use Rattle.puzzle.proofs.Puzzle.{holds-digit}
 use Rattle.journal.specs.declared.Move.{Move}
 use Rattle.journal.specs.Limits.{maxMoves, maxChecks}
-use Rattle.journal.specs.State.{State, opening, isGiven, digitAt, noteAt, holdsPlayersDigit}
+use Rattle.journal.specs.State.{opening, isGiven, digitAt, holdsPlayersDigit}
 use Rattle.journal.specs.StoredChecks.{Stored, isRight, judge}
 use Rattle.record.specs.declared.Asked.{Asked}
 use Rattle.record.specs.Reopen.{judged}

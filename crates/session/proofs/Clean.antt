@@ -1,18 +1,16 @@
 -- A refusal of number 0 is no refusal at all: place and inner number are 0 too, in all of reopening's tests 17 to 27.
 -- Assumes nothing.
 use Prim.Native.Nat.{ℕ, zero, suc}
-use mathlib.Core.Path.{_≡_, refl, sym, ap, _∙_}
-use mathlib.Core.Bool.{Bool, true, false, not}
+use mathlib.Core.Path.{_≡_, refl}
+use mathlib.Core.Bool.{Bool, true, false}
 use mathlib.Core.List.{List, [], _∷_}
-use Rattle.sudoku.proofs.Walks.{by-test, not-both-ways}
 use Rattle.puzzle.specs.declared.Refusal.{Refusal}
 use Rattle.puzzle.specs.declared.Given.{Given}
-use Rattle.puzzle.specs.Refusals.{refusal, accepted, isAccepted, refusedIf, orElse, firstRefused}
+use Rattle.puzzle.specs.Refusals.{accepted, isAccepted, refusedIf, orElse, firstRefused}
 use Rattle.puzzle.specs.Vouch.{nothingLeft, solutionDigit, solutionConflict, givenMatches, givensMatch, vouch}
-use Rattle.puzzle.proofs.Accepted.{accepts, or-else-of, or-else-left, or-else-right, if-not, if-passed}
+use Rattle.puzzle.proofs.Accepted.{or-else-of, or-else-left, or-else-right, if-not, if-passed}
 use Rattle.record.specs.Scan.{malformed, partsOfBytes}
 use Rattle.record.specs.Reopen.{oversized, miscounted, unreadable}
-use Rattle.record.proofs.Readable.{formed}
 
 abbrev Clean : Refusal → Type 0
 Clean r = isAccepted r ≡ true → r ≡ accepted

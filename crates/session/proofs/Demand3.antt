@@ -1,26 +1,22 @@
 -- Demand 3, proved: opening returns the fresh board, every answer is the book's, the board and the memory hold the book, what is written is the book's
 -- record and reopens to all of these; and bytes reopen exactly when some list of calls writes them.
 -- Assumes nothing.
-use Prim.Native.Nat.{ℕ, _+_, _-_, _*_, _≤_, _<_}
+use Prim.Native.Nat.{ℕ, _+_, _-_, _≤_}
 use mathlib.Core.Path.{_≡_, refl, sym, ap, subst, _∙_}
-use mathlib.Core.Bool.{Bool, true, false}
 use mathlib.Core.List.{List, [], _∷_, map}
-use mathlib.Core.Logic.{_↔_}
 use native.Mathlib.Omega.{arith}
 use lib.Dec.{eqb}
-use lib.ListN.{length, take, replicate, length-replicate, length-map}
-use Rattle.sudoku.specs.Tests.{pick}
+use lib.ListN.{length, take, replicate, length-replicate}
 use Rattle.sudoku.proofs.Walks.{by-test, pick-true, pick-false}
 use Rattle.puzzle.specs.declared.Given.{Given}
 use Rattle.puzzle.specs.Refusals.{accepted}
-use Rattle.journal.specs.declared.Move.{Move}
 use Rattle.journal.specs.Limits.{journalBytes, checkMemory, recordBytes}
 use Rattle.journal.specs.Bytes.{over}
 use Rattle.journal.specs.StoredChecks.{judge}
 use Rattle.journal.proofs.Memory.{take-over-end}
 use Rattle.board.specs.Open.{Opened, openedFresh}
 use Rattle.record.specs.declared.Asked.{Asked}
-use Rattle.record.specs.Items.{Parts, recordOf}
+use Rattle.record.specs.Items.{recordOf}
 use Rattle.record.specs.Scan.{partsOfBytes}
 use Rattle.record.specs.Write.{Wrote, wrote}
 use Rattle.record.specs.Reopen.{judged, reopenOf}
@@ -30,7 +26,7 @@ use Rattle.session.specs.declared.Call.the-variants.{Make, Undo, Redo, C
 use Rattle.session.specs.Session.{Session, after, started}
 use Rattle.session.specs.Book.{Book, newBook, made, refusedBy, taken, withMoves, step, keep, asked, partsOfBook, recordIn}
 use Rattle.session.specs.Opens.{Opens}
-use Rattle.session.specs.Demand3.{reopenedBook, writeSession, Kept, AreBytes, Writable, Demand3}
+use Rattle.session.specs.Demand3.{reopenedBook, Kept, AreBytes, Writable, Demand3}
 use Rattle.session.proofs.Opening.{opened}
 use Rattle.session.proofs.Making.{bookOf}
 use Rattle.session.proofs.Good.{Good, good-new, good-keep}

@@ -1,7 +1,7 @@
 -- What holds of every book: its givens open, its moves play, its counts are within the limits, a solved position is the last, and its checks are
 -- those that reopening admits. A new book has it, and every call keeps it.
 -- Assumes nothing.
-use Prim.Native.Nat.{ℕ, zero, suc, _+_, _-_, _*_, _≤_, _<_}
+use Prim.Native.Nat.{ℕ, _+_, _≤_}
 use mathlib.Core.Path.{_≡_, refl, sym, ap, subst, _∙_}
 use mathlib.Core.Bool.{Bool, true, false, not}
 use mathlib.Core.List.{List, [], _∷_, _++_}
@@ -10,10 +10,10 @@ use lib.Dec.{eqb}
 use lib.ListN.{length, take, length-append}
 use lib.Seq.{take-all, length-take-le}
 use borrow.Author.Tests.{not-true, not-false, eqb-true, eqb-false}
-use Rattle.sudoku.specs.Tests.{_⇒_, first, pick, both, count}
+use Rattle.sudoku.specs.Tests.{_⇒_, first, both, count}
 use Rattle.sudoku.proofs.Walks.{by-test, not-both-ways, passed, both-left, both-right, pick-true, pick-false}
 use Rattle.sudoku.proofs.Each.{Each, each-append}
-use Rattle.sudoku.specs.Grid.{inRange, onGrid, cellOf, at}
+use Rattle.sudoku.specs.Grid.{inRange, onGrid, cellOf}
 use Rattle.sudoku.proofs.Grid.{in-range, cell-of-is-cell}
 use Rattle.puzzle.specs.declared.Given.{Given}
 use Rattle.puzzle.proofs.Puzzle.{digit-held}

@@ -1,42 +1,35 @@
 -- The board that holds what a book holds passes number 2's test; and what it means that lent memory holds a book's moves and checks: each slot is
 -- read as it was written, and one move or one check more is held after it was laid over.
 -- Assumes nothing.
-use Prim.Native.Nat.{ℕ, zero, suc, _+_, _-_, _*_, _^_, _≤_, _<_}
-use mathlib.Core.Path.{_≡_, refl, sym, ap, subst, _∙_}
-use mathlib.Core.Bool.{Bool, true, false, not}
+use Prim.Native.Nat.{ℕ, _+_, _*_, _≤_, _<_}
+use mathlib.Core.Path.{_≡_, refl, sym, ap, _∙_}
+use mathlib.Core.Bool.{true, not}
 use mathlib.Core.List.{List, [], _∷_, _++_, append-assoc}
-use native.Mathlib.Nat.{le-trans}
-use native.Mathlib.Bridge.{le-by-compare, IsLe}
 use native.Mathlib.Omega.{arith}
-use lib.Dec.{eqb, leb}
-use lib.ListN.{length, take, drop, getD, length-append}
-use lib.Seq.{take-all, take-at, take-take, length-take-le, drop-cons}
+use lib.ListN.{length, take, drop, length-append}
+use lib.Seq.{take-at, take-take, length-take-le}
 use borrow.Author.Tests.{le-leb, ne-eqb}
-use Rattle.sudoku.specs.Tests.{pick, both, either, every}
 use Rattle.sudoku.proofs.Walks.{by-test, both-true, either-left, either-right, every-of}
 use Rattle.sudoku.specs.Grid.{inRange, isCell, at}
 use Rattle.sudoku.proofs.Grid.{is-cell}
-use Rattle.note.specs.Note.{isNote}
-use Rattle.puzzle.specs.declared.Given.{Given}
 use Rattle.journal.specs.declared.Move.{Move}
-use Rattle.journal.specs.declared.Move.the-variants.{Erase}
 use Rattle.journal.specs.declared.Counts.{Counts}
-use Rattle.journal.specs.declared.Slot.{Slot}
 use Rattle.journal.specs.Limits.{maxMoves, maxChecks, slotBytes, checkBytes, journalBytes, checkMemory}
 use Rattle.journal.specs.Counts.{counts}
 use Rattle.journal.specs.Bytes.{over}
-use Rattle.journal.specs.State.{State, opening, isGiven, digitAt, noteAt, perform}
+use Rattle.journal.specs.State.{State, opening, isGiven, digitAt, noteAt}
 use Rattle.journal.specs.Slots.{slotFor, bytesOf, slotAt}
 use Rattle.journal.specs.StoredChecks.{Stored, storedBytes, storedAll}
-use Rattle.journal.proofs.Moves.{Fit, mask-small}
-use Rattle.journal.proofs.Memory.{length-over, take-over-end, slot-agree, slot-behind}
-use Rattle.board.specs.Board.{stateOf, boardOf, isBoard, digitValue, noteValue, solutionValue}
+use Rattle.journal.proofs.Moves.{Fit}
+use Rattle.journal.proofs.Memory.{length-over, take-over-end}
+use Rattle.board.specs.Board.{boardOf, isBoard, digitValue, noteValue, solutionValue}
 use Rattle.session.specs.declared.Call.the-variants.{Make, Check}
 use Rattle.session.specs.Book.{Book, made, performAll, stateIn, slotsFrom, slotsIn, taken, withMoves, checkIn}
 use Rattle.session.specs.Demand3.{boardIn}
 use Rattle.session.proofs.Plays.{moveNo, slots-append, slots-length, slots-in-two}
 use Rattle.session.proofs.Reached.{reached-fit}
 use Rattle.session.proofs.Good.{Good, standing-plays}
+use Rattle.session.proofs.Slots.{journal-slot}
 
 -- ---- the board of a book
 
@@ -73,33 +66,13 @@ module _ (s : State) (ms : List Move) (n : ℕ) where
       ∙ take-at (slotsFrom s (take n ms)) (slotsFrom (performAll s (take n ms)) (drop n ms)) (slotBytes * n)
       (slots-length s (take n ms) ∙ ap (λ (k : ℕ). slotBytes * k) (length-take-le n ms h))
 
-  -- the slot behind them is the next move's
-  pub slots-next : n < length ms → slotAt (slotsFrom s ms) (n + 1) ≡ slotFor (performAll s (take n ms)) (moveNo ms n)
-  unfolding slotsFrom moveNo slotFor IsLe
-  slots-next h =
-      ap (λ (l : List ℕ). slotAt l (n + 1))
-      (slots-in-two s ms n
-      ∙ ap (λ (l : List Move). slotsFrom s (take n ms) ++ slotsFrom (performAll s (take n ms)) l) (drop-cons ms n (Erase 0 0) h)
-      ∙ sym (append-assoc (slotsFrom s (take n ms)) (bytesOf (slotFor (performAll s (take n ms)) (moveNo ms n))) (slotsFrom (perform (performAll s (take n ms)) (moveNo ms n)) (drop (suc n) ms))))
-      ∙ slot-behind (slotsFrom s (take n ms)) n (slotFor (performAll s (take n ms)) (moveNo ms n))
-      (slotsFrom (perform (performAll s (take n ms)) (moveNo ms n)) (drop (suc n) ms))
-      (slots-length s (take n ms) ∙ ap (λ (k : ℕ). slotBytes * k) (length-take-le n ms (omega arith))) small
-    where
-      small : slotFor (performAll s (take n ms)) (moveNo ms n) .struck < 2 ^ 24
-      small = le-trans (mask-small (performAll s (take n ms)) (moveNo ms n)) (le-by-compare (2 ^ 20) (2 ^ 24) tt)
-
 -- ---- stored checks
 
-pub stored-append : (cs ds : List Stored) → storedAll (cs ++ ds) ≡ storedAll cs ++ storedAll ds
+stored-append : (cs ds : List Stored) → storedAll (cs ++ ds) ≡ storedAll cs ++ storedAll ds
 unfolding storedAll
 stored-append [] ds = refl
 stored-append (c ∷ cs) ds =
     ap (λ (l : List ℕ). storedBytes c ++ l) (stored-append cs ds) ∙ sym (append-assoc (storedBytes c) (storedAll cs) (storedAll ds))
-
-pub stored-length : (cs : List Stored) → length (storedAll cs) ≡ checkBytes * length cs
-unfolding storedAll storedBytes
-stored-length [] = refl
-stored-length (c ∷ cs) = omega (arith, stored-length cs)
 
 -- ---- lent memory that holds a book's moves and checks
 
@@ -113,10 +86,7 @@ module _ (journal checks : List ℕ) (k : Book) (h : Held journal checks k) wher
   -- slot n + 1 is that of move n + 1, with what it displaced in the state before it
   pub held-slot : (n : ℕ) → n < made k → slotAt journal (n + 1) ≡ slotFor (performAll (opening (k .givens)) (take n (k .moves))) (moveNo (k .moves) n)
   unfolding slotsIn made
-  held-slot n u =
-      slot-agree journal (slotsIn k) (made k) (n + 1)
-      (h .slots ∙ sym (take-all (slotBytes * made k) (slotsIn k) (omega (arith, slots-length (opening (k .givens)) (k .moves))))) (omega arith) (omega arith)
-      ∙ slots-next (opening (k .givens)) (k .moves) n u
+  held-slot n u = journal-slot journal (opening (k .givens)) (k .moves) (h .slots) n u
 
   -- the slots of the standing moves, and one slot more behind them
   pub held-front : k .standing ≤ made k → take (slotBytes * k .standing) journal ≡ slotsFrom (opening (k .givens)) (take (k .standing) (k .moves))

@@ -1,18 +1,18 @@
 -- A line of play up to a check: from the fresh position, mark 1 written and struck in turn at the check's cell, then the digit placed there.
 -- So a check with any standing count from 1 on can be asked, and undoing the line leaves the fresh position.
 -- Assumes nothing.
-use Prim.Native.Nat.{ℕ, zero, suc, _+_, _-_, _*_, _≤_, _<_}
+use Prim.Native.Nat.{ℕ, zero, suc, _+_, _-_}
 use mathlib.Core.Path.{_≡_, refl, sym, ap, subst, _∙_}
-use mathlib.Core.Bool.{Bool, true, false, not}
+use mathlib.Core.Bool.{Bool, true, false}
 use mathlib.Core.List.{List, [], _∷_, _++_}
 use native.Mathlib.Omega.{arith}
 use lib.Dec.{ltb, eqb}
 use lib.ListN.{length, take, getD, length-append}
 use lib.Seq.{take-all}
 use borrow.Author.Tests.{ltb-true, ltb-false, eq-eqb, ne-eqb}
-use Rattle.sudoku.specs.Tests.{pick, both, either}
-use Rattle.sudoku.proofs.Walks.{by-test, both-true, pick-false, not-is-false}
-use Rattle.sudoku.specs.Grid.{inRange, onGrid, cellOf, isCell, at, put}
+use Rattle.sudoku.specs.Tests.{both, either}
+use Rattle.sudoku.proofs.Walks.{by-test, pick-false, not-is-false}
+use Rattle.sudoku.specs.Grid.{inRange, onGrid, cellOf, at, put}
 use Rattle.sudoku.proofs.Grid.{range-from, at-put, length-put, cell-of-is-cell}
 use Rattle.note.specs.Note.{contains, withMark, without}
 use Rattle.note.proofs.Note.{contains-with, contains-without}

@@ -1,16 +1,16 @@
 -- Lists of calls: what each call answers is what the book says, and what they leave holds the book after them.
 -- Assumes nothing.
-use mathlib.Core.Path.{_≡_, refl, sym, ap, _∙_}
+use mathlib.Core.Path.{_≡_, refl, ap, _∙_}
 use mathlib.Core.List.{List, [], _∷_}
 use Prim.Native.Nat.{ℕ}
-use lib.ListN.{length, take, length-replicate}
+use lib.ListN.{length-replicate}
 use Rattle.puzzle.specs.declared.Given.{Given}
 use Rattle.journal.specs.Limits.{journalBytes, checkMemory}
 use Rattle.journal.specs.StoredChecks.{storedAll}
-use Rattle.board.specs.Board.{boardOf, fresh}
+use Rattle.board.specs.Board.{fresh}
 use Rattle.board.specs.Open.{openedFresh, noMoves, noChecks}
 use Rattle.session.specs.declared.Call.{Call}
-use Rattle.session.specs.Session.{Session, Said, callOf, after, answers, started}
+use Rattle.session.specs.Session.{Session, Said, after, answers, started}
 use Rattle.session.specs.Book.{Book, newBook, made, performAll, stateIn, step, says, keep, saysAll, slotsFrom, slotsIn}
 use Rattle.session.specs.Opens.{Opens}
 use Rattle.session.specs.Demand3.{boardIn}

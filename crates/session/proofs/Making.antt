@@ -1,38 +1,31 @@
 -- Calls that make a given book: a record's moves one after the other, moves taken back, and for each stored check a line of play that
 -- leads up to it and is undone afterwards.
 -- Assumes nothing.
-use Prim.Native.Nat.{ℕ, zero, suc, _+_, _-_, _*_, _≤_, _<_}
+use Prim.Native.Nat.{ℕ, zero, suc, _+_, _-_, _≤_, _<_}
 use mathlib.Core.Path.{_≡_, refl, sym, ap, subst, _∙_}
-use mathlib.Core.Bool.{Bool, true, false, not}
+use mathlib.Core.Bool.{true, false, not}
 use mathlib.Core.List.{List, [], _∷_, _++_, append-assoc, append-nil, map}
 use native.Mathlib.Nat.{le-refl, zero-add}
-use native.Mathlib.Numerals.{add-one}
 use native.Mathlib.Omega.{arith}
 use lib.Dec.{eqb}
-use lib.ListN.{length, take, drop, getD, replicate, length-append}
-use lib.Seq.{take-length, take-append-seam, take-all, take-append-le}
-use borrow.Author.Tests.{not-false, eqb-false, eq-eqb, ne-eqb}
-use Rattle.sudoku.specs.Tests.{Test, _⇒_, first, pick, both}
-use Rattle.sudoku.proofs.Walks.{passed, no-if, both-left, both-right, both-true, not-is-false, pick-true, pick-false}
-use Rattle.sudoku.specs.Grid.{inRange, onGrid, cellOf}
+use lib.ListN.{length, take, replicate, length-append}
+use lib.Seq.{take-length}
+use borrow.Author.Tests.{eq-eqb, ne-eqb}
+use Rattle.sudoku.proofs.Walks.{no-if, not-is-false, pick-true}
+use Rattle.sudoku.specs.Grid.{onGrid, cellOf}
 use Rattle.puzzle.specs.declared.Given.{Given}
 use Rattle.journal.specs.declared.Move.{Move}
-use Rattle.journal.specs.declared.Move.the-variants.{Place, WriteMark, StrikeMark}
 use Rattle.journal.specs.Limits.{maxMoves, maxChecks}
-use Rattle.journal.specs.State.{State, opening, isGiven, digitAt, noteAt, holdsPlayersDigit, acceptsMarks, perform}
+use Rattle.journal.specs.State.{State, opening, digitAt, holdsPlayersDigit}
 use Rattle.journal.specs.StoredChecks.{Stored, judge}
 use Rattle.play.specs.Play.{moveTests}
 use Rattle.session.specs.declared.Call.{Call}
-use Rattle.session.specs.declared.Call.the-variants.{Make, Undo, Redo, Check}
-use Rattle.session.specs.Book.{Book, made, performAll, stateIn, refusedBy, taken, withMoves, checkIn, step, keep}
+use Rattle.session.specs.declared.Call.the-variants.{Make, Undo, Check}
+use Rattle.session.specs.Book.{Book, performAll, stateIn, refusedBy, taken, withMoves, checkIn, step, keep}
 use Rattle.session.proofs.Plays.{Passes, Plays, perform-append}
-use Rattle.session.proofs.Refusals.{first-last, refused-make, refused-undo, refused-check}
+use Rattle.session.proofs.Refusals.{first-none, first-last, refused-make, refused-undo, refused-check}
 
 -- ---- steps of any book
-
-none : first [] ≡ 0
-unfolding first
-none = refl
 
 pub step-taken : (k : Book) (c : Call) → refusedBy k c ≡ 0 → step k c ≡ taken k c
 unfolding step
@@ -50,7 +43,7 @@ make-accepted k m p h =
 
 pub undo-accepted : (k : Book) → stateIn k .solved ≡ false → 1 ≤ k .standing → refusedBy k Undo ≡ 0
 undo-accepted k p h =
-    refused-undo k ∙ no-if (stateIn k .solved) 4 _ p ∙ no-if (eqb (k .standing) 0) 12 [] (ne-eqb (k .standing) 0 (λ e. omega arith)) ∙ none
+    refused-undo k ∙ no-if (stateIn k .solved) 4 _ p ∙ no-if (eqb (k .standing) 0) 12 [] (ne-eqb (k .standing) 0 (λ e. omega arith)) ∙ first-none
 
 pub check-accepted : (k : Book) (row column : ℕ) → onGrid row column ≡ true → stateIn k .solved ≡ false
     → holdsPlayersDigit (stateIn k) (cellOf row column) ≡ true → length (k .checks) < maxChecks → refusedBy k (Check row column) ≡ 0
@@ -60,7 +53,7 @@ check-accepted k row column on p holds h =
     ∙ no-if (stateIn k .solved) 4 _ p
     ∙ no-if (not (holdsPlayersDigit (stateIn k) (cellOf row column))) 6 _ (not-is-false _ holds)
     ∙ no-if (eqb (length (k .checks)) maxChecks) 16 [] (ne-eqb (length (k .checks)) maxChecks (λ e. omega arith))
-    ∙ none
+    ∙ first-none
 
 -- ---- books of one puzzle
 

@@ -1,27 +1,25 @@
 -- Number 33: where one cell is to play, the right digit there solves the board; and a digit placed on the fresh position solves it only so.
 -- Assumes nothing.
-use Prim.Native.Nat.{ℕ, _+_, _-_, _≤_, _<_}
-use mathlib.Core.Path.{_≡_, refl, sym, ap, subst, _∙_}
+use Prim.Native.Nat.{ℕ, _+_, _≤_}
+use mathlib.Core.Path.{_≡_, refl, sym, ap, _∙_}
 use mathlib.Core.Bool.{Bool, true, false, not}
 use mathlib.Core.List.{List}
 use native.Mathlib.Omega.{arith}
 use lib.Dec.{eqb}
 use lib.ListN.{length}
-use borrow.Author.Tests.{eq-eqb, ne-eqb, eqb-true, eqb-false, not-true}
-use Rattle.sudoku.specs.Tests.{pick, both, count}
+use borrow.Author.Tests.{eq-eqb, eqb-true, eqb-false, not-true}
+use Rattle.sudoku.specs.Tests.{both, count}
 use Rattle.sudoku.proofs.Walks.{by-test, not-both-ways, both-true, both-left, both-right, count-some}
 use Rattle.sudoku.proofs.Counting.{count-zero, count-apart, count-alone}
 use Rattle.sudoku.specs.Grid.{inRange, isCell, rowOf, at, put}
 use Rattle.sudoku.proofs.Grid.{cell-from, cell-to, is-cell, range-from, range-to, row-in-range, at-put, at-put-other}
 use Rattle.puzzle.specs.declared.Given.{Given}
-use Rattle.puzzle.specs.Givens.{digitsOf, givenCells}
+use Rattle.puzzle.specs.Givens.{digitsOf}
 use Rattle.puzzle.specs.Puzzle.{isFull, isConsistent}
 use Rattle.puzzle.proofs.Givens.{length-digits-of}
 use Rattle.puzzle.proofs.Puzzle.{full-exactly, consistent-exactly}
 use Rattle.journal.specs.declared.Move.{Move}
-use Rattle.journal.specs.Counts.{counts}
-use Rattle.journal.specs.State.{State, opening, isGiven, digitAt}
-use Rattle.journal.proofs.Moves.{Fit}
+use Rattle.journal.specs.State.{opening, isGiven, digitAt}
 use Rattle.board.specs.Board.{stateOf, boardOf, fresh}
 use Rattle.record.specs.Reopen.{toPlay}
 use Rattle.record.proofs.Givens.{to-play}
@@ -31,7 +29,7 @@ use Rattle.session.specs.Solved.{timesHeld, EachOnce}
 use Rattle.session.proofs.Opening.{opening-digit, opening-free, opens-grid, opens-rising}
 use Rattle.session.proofs.Units.{each-once}
 use Rattle.session.proofs.Plays.{Plays}
-use Rattle.session.proofs.Reached.{reached-fit, reached-is-given, reached-digit}
+use Rattle.session.proofs.Reached.{reached-fit, reached-digit}
 
 module _ (gs : List Given) (solution : List ℕ) (o : Opens gs solution) where
   -- the cells that are no givens

@@ -1,16 +1,15 @@
 -- Moves that play: each passes the tests of its call in the state before it. What follows for the moves before and after a place in the list,
 -- and for the slots that the moves fill.
 -- Assumes nothing.
-use Prim.Native.Nat.{ℕ, zero, suc, _+_, _*_, _≤_, _<_}
+use Prim.Native.Nat.{ℕ, suc, _+_, _*_, _<_}
 use mathlib.Core.Path.{_≡_, refl, sym, ap, subst, _∙_}
-use mathlib.Core.Bool.{Bool, true, false}
 use mathlib.Core.List.{List, [], _∷_, _++_, append-assoc}
 use native.Mathlib.Omega.{arith}
-use lib.ListN.{length, take, drop, getD, length-append, take-append-drop}
-use lib.Seq.{drop-cons, length-take-le, take-suc}
+use lib.ListN.{length, take, drop, getD, take-append-drop}
+use lib.Seq.{drop-cons, take-suc}
 use Rattle.sudoku.specs.Tests.{first}
 use Rattle.journal.specs.declared.Move.{Move}
-use Rattle.journal.specs.declared.Move.the-variants.{Place, Erase, WriteMark, StrikeMark}
+use Rattle.journal.specs.declared.Move.the-variants.{Erase}
 use Rattle.journal.specs.Limits.{slotBytes}
 use Rattle.journal.specs.State.{State, perform}
 use Rattle.journal.specs.Slots.{slotFor, bytesOf}

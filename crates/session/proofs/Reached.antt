@@ -1,17 +1,13 @@
 -- The states that moves reach from the opening: they are fit, their givens are the puzzle's and hold the solution's digits, and where one cell is to play
 -- the right digit there solves the board.
 -- Assumes nothing.
-use Prim.Native.Nat.{ℕ, zero, suc, _+_, _-_, _*_, _≤_, _<_}
-use mathlib.Core.Path.{_≡_, refl, sym, ap, subst, _∙_}
-use mathlib.Core.Bool.{Bool, true, false, not}
-use mathlib.Core.List.{List, [], _∷_, _++_}
-use native.Mathlib.Omega.{arith}
-use lib.Dec.{eqb}
-use lib.ListN.{length, take, getD, length-append}
-use borrow.Author.Tests.{ltb-true, ltb-false, eq-eqb, ne-eqb, eqb-true}
-use Rattle.sudoku.specs.Tests.{pick, both, either}
-use Rattle.sudoku.proofs.Walks.{by-test, not-both-ways, both-true}
-use Rattle.sudoku.specs.Grid.{inRange, onGrid, cellOf, isCell, at, put}
+use Prim.Native.Nat.{ℕ, _-_}
+use mathlib.Core.Path.{_≡_, refl, sym, ap, _∙_}
+use mathlib.Core.Bool.{Bool, true, false}
+use mathlib.Core.List.{List, [], _∷_}
+use lib.ListN.{getD}
+use Rattle.sudoku.proofs.Walks.{not-both-ways}
+use Rattle.sudoku.specs.Grid.{onGrid, cellOf, isCell, at, put}
 use Rattle.sudoku.proofs.Grid.{at-put-other, cell-of-is-cell}
 use Rattle.puzzle.specs.declared.Given.{Given}
 use Rattle.puzzle.specs.Givens.{givenCells}
@@ -21,8 +17,8 @@ use Rattle.journal.specs.State.{State, opening, isGiven, digitAt, withNotes, pu
 use Rattle.journal.proofs.Moves.{Fit, Allowed, fit-perform, given-kept}
 use Rattle.session.specs.Book.{performAll}
 use Rattle.session.specs.Opens.{Opens}
-use Rattle.session.proofs.Opening.{opening-fit, opening-digit, opening-free}
-use Rattle.session.proofs.Plays.{Passes, Plays}
+use Rattle.session.proofs.Opening.{opening-fit, opening-digit}
+use Rattle.session.proofs.Plays.{Plays}
 use Rattle.session.proofs.Refusals.{passes-unsolved, passes-allowed}
 
 -- ---- any state

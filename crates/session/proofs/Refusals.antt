@@ -1,15 +1,14 @@
 -- The book's refusals: all numbers in one list, the same number that the calls' own lists give; and what an accepted call has passed.
 -- Assumes nothing.
-use Prim.Native.Nat.{ℕ, zero, suc, _+_, _*_, _≤_, _<_}
-use mathlib.Core.Path.{_≡_, refl, sym, ap, subst, _∙_}
+use Prim.Native.Nat.{ℕ, _+_}
+use mathlib.Core.Path.{_≡_, refl, ap, _∙_}
 use mathlib.Core.Bool.{Bool, true, false, not}
 use mathlib.Core.List.{List, [], _∷_, _++_}
-use native.Mathlib.Omega.{arith}
 use lib.Dec.{eqb}
 use lib.ListN.{length}
-use borrow.Author.Tests.{not-true, not-false, eqb-false, eq-eqb, ne-eqb}
-use Rattle.sudoku.specs.Tests.{Test, _⇒_, first, pick, both}
-use Rattle.sudoku.proofs.Walks.{passed, no-if, both-left, both-right, both-true, not-is-false}
+use borrow.Author.Tests.{not-true, not-false, eqb-false}
+use Rattle.sudoku.specs.Tests.{Test, _⇒_, first, pick}
+use Rattle.sudoku.proofs.Walks.{passed, no-if, both-left, both-right, not-is-false}
 use Rattle.sudoku.specs.Grid.{inRange, onGrid, cellOf}
 use Rattle.note.specs.Note.{contains}
 use Rattle.puzzle.specs.Puzzle.{holdsDigit}
@@ -25,7 +24,12 @@ use Rattle.session.proofs.Plays.{Passes}
 
 -- ---- a move that passes
 
--- ends in a last test: the tests before it, and it
+-- no test, no refusal
+pub first-none : first [] ≡ 0
+unfolding first
+first-none = refl
+
+-- tests, and a last one that does not hold
 pub first-last : (ts : List Test) (t : Bool) (n : ℕ) → t ≡ false → first (ts ++ ((t ⇒ n) ∷ [])) ≡ first ts
 unfolding first
 first-last [] t n p = no-if t n [] p
@@ -87,10 +91,6 @@ passes-allowed s (WriteMark row column digit) p = write-passes s row column digi
 passes-allowed s (StrikeMark row column digit) p = strike-passes s row column digit p
 
 -- what passes: a digit put where no given and not this digit stands, a mark written where it is absent, a mark struck where it stands
-none : first [] ≡ 0
-unfolding first
-none = refl
-
 pub place-pass : (s : State) (row column digit : ℕ) → onGrid row column ≡ true → s .solved ≡ false → isGiven s (cellOf row column) ≡ false
     → inRange digit ≡ true → eqb (digitAt s (cellOf row column)) digit ≡ false → Passes s (Place row column digit)
 unfolding Passes moveTests
@@ -100,7 +100,7 @@ place-pass s row column digit on unsolved free range other =
     ∙ no-if (isGiven s (cellOf row column)) 5 _ free
     ∙ no-if (not (inRange digit)) 8 _ (not-is-false (inRange digit) range)
     ∙ no-if (eqb (digitAt s (cellOf row column)) digit) 9 [] other
-    ∙ none
+    ∙ first-none
 
 pub write-pass : (s : State) (row column digit : ℕ) → onGrid row column ≡ true → s .solved ≡ false → holdsDigit (s .digits) (cellOf row column) ≡ false
     → inRange digit ≡ true → contains (noteAt s (cellOf row column)) digit ≡ false → Passes s (WriteMark row column digit)
@@ -111,7 +111,7 @@ write-pass s row column digit on unsolved empty range absent =
     ∙ no-if (not (not (holdsDigit (s .digits) (cellOf row column)))) 7 _ (ap (λ (t : Bool). not (not t)) empty)
     ∙ no-if (not (inRange digit)) 8 _ (not-is-false (inRange digit) range)
     ∙ no-if (contains (noteAt s (cellOf row column)) digit) 10 [] absent
-    ∙ none
+    ∙ first-none
 
 pub strike-pass : (s : State) (row column digit : ℕ) → onGrid row column ≡ true → s .solved ≡ false → holdsDigit (s .digits) (cellOf row column) ≡ false
     → contains (noteAt s (cellOf row column)) digit ≡ true → Passes s (StrikeMark row column digit)
@@ -121,7 +121,7 @@ strike-pass s row column digit on unsolved empty there =
     ∙ no-if (s .solved) 4 _ unsolved
     ∙ no-if (not (not (holdsDigit (s .digits) (cellOf row column)))) 7 _ (ap (λ (t : Bool). not (not t)) empty)
     ∙ no-if (not (contains (noteAt s (cellOf row column)) digit)) 11 [] (not-is-false (contains (noteAt s (cellOf row column)) digit) there)
-    ∙ none
+    ∙ first-none
 
 -- ---- the book's number
 

@@ -1,43 +1,40 @@
 -- A book's record reopens to the book: its board, the slots of its moves, its checks, zero beyond; whatever the lent memory held.
 -- Assumes nothing.
-use Prim.Native.Nat.{ℕ, zero, suc, _+_, _-_, _*_, _≤_, _<_}
+use Prim.Native.Nat.{ℕ, _+_, _-_, _*_, _≤_, _<_}
 use mathlib.Core.Path.{_≡_, refl, sym, ap, subst, _∙_}
 use mathlib.Core.Bool.{Bool, true, false, not}
-use mathlib.Core.List.{List, [], _∷_, _++_, map}
+use mathlib.Core.List.{List, [], _∷_, map}
 use native.Mathlib.Nat.{le-refl}
 use native.Mathlib.Omega.{arith}
 use lib.Dec.{eqb}
-use lib.ListN.{length, take, getD, length-replicate, length-map}
+use lib.ListN.{length, take, length-replicate, length-map}
 use lib.Seq.{take-length}
-use borrow.Author.Tests.{eq-eqb, ne-eqb}
-use Rattle.sudoku.specs.Tests.{pick, both, count}
-use Rattle.sudoku.proofs.Walks.{by-test, not-both-ways, both-true, both-false-left, both-false-right, not-is-false, pick-true}
+use borrow.Author.Tests.{eq-eqb}
+use Rattle.sudoku.specs.Tests.{pick, both}
+use Rattle.sudoku.proofs.Walks.{by-test, both-true, both-false-left, both-false-right, not-is-false, pick-true}
 use Rattle.sudoku.proofs.Each.{Each, each-to, each-map}
-use Rattle.sudoku.specs.Grid.{cellOf}
 use Rattle.puzzle.specs.declared.Given.{Given}
 use Rattle.puzzle.specs.Givens.{ascending, givenCells}
 use Rattle.puzzle.specs.Refusals.{refusal, accepted, isAccepted}
 use Rattle.puzzle.proofs.Posed.{Vouched}
 use Rattle.puzzle.proofs.Accepted.{accepts, if-not, or-else-of}
 use Rattle.journal.specs.declared.Move.{Move}
-use Rattle.journal.specs.Limits.{maxMoves, maxChecks, slotBytes, checkBytes, journalBytes, checkMemory}
+use Rattle.journal.specs.Limits.{slotBytes, journalBytes, checkMemory}
 use Rattle.journal.specs.Counts.{counts}
 use Rattle.journal.specs.Bytes.{over}
 use Rattle.journal.specs.State.{State, opening, isGiven}
-use Rattle.journal.specs.StoredChecks.{Stored, isRight, judge, storedAll}
+use Rattle.journal.specs.StoredChecks.{Stored, judge, storedAll}
 use Rattle.journal.proofs.Memory.{length-over, take-over-end}
 use Rattle.board.specs.declared.Board.{Board}
 use Rattle.board.specs.Board.{stateOf, countsOf, boardOf, fresh}
-use Rattle.board.specs.Open.{Opened, answer, noMoves, noChecks, lentLengths, turnedAway}
+use Rattle.board.specs.Open.{answer, noMoves, noChecks, lentLengths, turnedAway}
 use Rattle.play.specs.Play.{Played, played}
-use Rattle.record.specs.declared.Asked.{Asked}
-use Rattle.record.specs.Items.{Parts, recordOf}
-use Rattle.record.specs.Scan.{malformed, partsOfBytes}
-use Rattle.record.specs.Reopen.{unreadable, replay, takeBackAll, toPlay, checksRefusal, judged, reopened, settledRecord, replayed, reopenOf}
+use Rattle.record.specs.Items.{Parts}
+use Rattle.record.specs.Scan.{partsOfBytes}
+use Rattle.record.specs.Reopen.{replay, takeBackAll, toPlay, checksRefusal, judged, reopened, settledRecord, replayed, reopenOf}
 use Rattle.record.proofs.ReadBack.{CheckFits, record-formed, record-parts}
 use Rattle.record.proofs.Readable.{InTime, Sized, Counted, Readable, readable-of}
-use Rattle.session.specs.Book.{Book, made, performAll, stateIn, withMoves, slotsFrom, slotsIn, asked, partsOfBook, recordIn}
-use Rattle.session.specs.Opens.{Opens}
+use Rattle.session.specs.Book.{Book, made, performAll, stateIn, withMoves, slotsIn, asked, partsOfBook, recordIn}
 use Rattle.session.specs.Demand3.{boardIn, reopenedBook}
 use Rattle.session.proofs.Opening.{opens-ascending, opens-vouched}
 use Rattle.session.proofs.Plays.{slots-length}

@@ -2,16 +2,16 @@
 -- and taking back n moves of a book's board lowers its standing count by n.
 -- Assumes nothing.
 use Prim.Native.Nat.{ℕ, zero, suc, _+_, _-_, _*_, _≤_, _<_, min}
-use mathlib.Core.Path.{_≡_, refl, sym, ap, subst, _∙_}
-use mathlib.Core.Bool.{Bool, true, false, not}
+use mathlib.Core.Path.{_≡_, refl, sym, ap, _∙_}
+use mathlib.Core.Bool.{true, false}
 use mathlib.Core.List.{List, [], _∷_, _++_, append-assoc, append-nil}
 use native.Mathlib.Nat.{zero-add}
 use native.Mathlib.Omega.{arith}
 use lib.Dec.{eqb, leb, ltb}
-use lib.ListN.{length, take, length-append, length-replicate}
+use lib.ListN.{length, length-append, length-replicate}
 use lib.Seq.{take-all}
 use borrow.Author.Tests.{eq-eqb, eqb-true, lt-leb, ltb-true, ltb-false}
-use Rattle.sudoku.specs.Tests.{first, pick}
+use Rattle.sudoku.specs.Tests.{first}
 use Rattle.sudoku.proofs.Walks.{by-test, not-both-ways, pick-true, pick-false}
 use Rattle.puzzle.specs.declared.Given.{Given}
 use Rattle.puzzle.specs.Refusals.{refusal, accepted, isAccepted}
@@ -27,10 +27,10 @@ use Rattle.board.specs.declared.Board.{Board}
 use Rattle.board.specs.declared.Answer.{Answer}
 use Rattle.board.specs.Board.{stateOf, countsOf, boardOf, moved, fresh}
 use Rattle.board.specs.Open.{noMoves}
-use Rattle.play.specs.Play.{Played, played, moveTests, recordMove, undoOf}
+use Rattle.play.specs.Play.{Played, played, moveTests, recordMove}
 use Rattle.record.specs.Reopen.{replay, takeBackAll}
 use Rattle.session.specs.declared.Call.the-variants.{Undo}
-use Rattle.session.specs.Book.{Book, made, performAll, stateIn, refusedBy, taken, withMoves, slotsFrom}
+use Rattle.session.specs.Book.{Book, performAll, stateIn, refusedBy, taken, withMoves, slotsFrom}
 use Rattle.session.specs.Demand3.{boardIn}
 use Rattle.session.proofs.Plays.{Passes, Plays, plays-next}
 use Rattle.session.proofs.Refusals.{passes-unsolved}

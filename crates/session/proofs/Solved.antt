@@ -1,20 +1,13 @@
 -- Demand 2's theorem, proved: a board played from its opening is solved exactly when every row, column and box holds each of 1 to 9 once.
 -- Assumes nothing.
-use Prim.Native.Nat.{ℕ}
 use mathlib.Core.Path.{_≡_, sym, subst}
 use mathlib.Core.Bool.{true}
 use mathlib.Core.Logic.{_↔_}
-use mathlib.Core.List.{List}
 use lib.ListN.{take}
-use Rattle.puzzle.specs.declared.Given.{Given}
-use Rattle.journal.specs.State.{State}
 use Rattle.journal.proofs.Moves.{Fit}
 use Rattle.board.specs.Board.{boardOf}
-use Rattle.board.specs.Open.{openedFresh}
-use Rattle.session.specs.declared.Call.{Call}
-use Rattle.session.specs.Session.{Session, after, started}
+use Rattle.session.specs.Session.{Session}
 use Rattle.session.specs.Book.{Book, newBook, stateIn, keep}
-use Rattle.session.specs.Opens.{Opens}
 use Rattle.session.specs.Demand3.{boardIn}
 use Rattle.session.specs.Solved.{EachOnce, SolvedTheorem}
 use Rattle.session.proofs.Units.{fit-solved}

@@ -1,45 +1,41 @@
 -- Each call on the board that holds what a book holds: it answers what the book says, and leaves the board and the memory that hold the book after it.
 -- Assumes nothing.
-use Prim.Native.Nat.{ℕ, zero, suc, _+_, _-_, _*_, _≤_, _<_, min}
+use Prim.Native.Nat.{ℕ, _+_, _-_, _*_, _<_, min}
 use mathlib.Core.Path.{_≡_, refl, sym, ap, subst, _∙_}
 use mathlib.Core.Bool.{Bool, true, false, not}
 use mathlib.Core.List.{List, [], _∷_, _++_}
-use native.Mathlib.Nat.{le-refl}
 use native.Mathlib.Numerals.{add-one}
 use native.Mathlib.Omega.{arith}
 use lib.Dec.{eqb, leb}
 use lib.ListN.{length, take, length-append}
-use lib.Seq.{take-all, take-at, length-take-le}
-use borrow.Author.Tests.{not-true, eq-eqb, ne-eqb, eqb-true, eqb-false, le-leb, lt-leb, leb-true, leb-false}
+use lib.Seq.{take-all, length-take-le}
+use borrow.Author.Tests.{eq-eqb, ne-eqb, eqb-true, eqb-false, le-leb, lt-leb, leb-true}
 use Rattle.sudoku.specs.Tests.{Test, _⇒_, first, pick, both}
-use Rattle.sudoku.proofs.Walks.{by-test, no-if, refused, both-true, not-is-false, pick-true, pick-false, same-test}
-use Rattle.sudoku.specs.Grid.{onGrid, cellOf}
+use Rattle.sudoku.proofs.Walks.{by-test, no-if, both-true, not-is-false, pick-true, pick-false, same-test}
 use Rattle.puzzle.specs.declared.Refusal.{Refusal}
 use Rattle.puzzle.specs.Refusals.{refusal, accepted}
 use Rattle.journal.specs.declared.Move.{Move}
-use Rattle.journal.specs.declared.Slot.{Slot}
-use Rattle.journal.specs.declared.Counts.{Counts}
-use Rattle.journal.specs.Limits.{maxMoves, maxChecks, slotBytes, checkBytes, journalBytes, checkMemory}
+use Rattle.journal.specs.Limits.{maxMoves, slotBytes, checkBytes, journalBytes, checkMemory}
 use Rattle.journal.specs.Counts.{counts, recorded, takenBack, retaken}
 use Rattle.journal.specs.Bytes.{over}
-use Rattle.journal.specs.State.{State, opening, isGiven, holdsPlayersDigit, perform, performAgain, takeBack, before, struck, standsAsLeft, standsAsFound}
+use Rattle.journal.specs.State.{State, opening, isGiven, perform, performAgain, takeBack, before, struck, standsAsLeft, standsAsFound}
 use Rattle.journal.specs.Slots.{slotFor, bytesOf, slotAt, moveOf, isSound}
 use Rattle.journal.specs.StoredChecks.{storedBytes}
 use Rattle.journal.proofs.Moves.{Fit, Allowed, given-kept, performed-again, taken-back, stands-left, stands-found, slot-sound, move-kept}
 use Rattle.board.specs.declared.Answer.{Answer}
 use Rattle.board.specs.Board.{stateOf, countsOf, boardOf, moved, isBoard}
 use Rattle.board.specs.Open.{answer}
-use Rattle.play.specs.Play.{Played, played, moveTests, lentTests, callTests, recordMove, playOf, slotRefusal, canTakeBack, undoTests, undone, undoOf, canRetake, redoTests, redone, redoOf}
+use Rattle.play.specs.Play.{Played, played, lentTests, callTests, recordMove, playOf, slotRefusal, canTakeBack, undoTests, undone, undoOf, canRetake, redoTests, redone, redoOf}
 use Rattle.play.specs.Check.{CheckPlayed, checkTests, checkOn, checked, withCheck, checkOf}
 use Rattle.session.specs.declared.Call.{Call}
 use Rattle.session.specs.declared.Call.the-variants.{Make, Undo, Redo, Check}
-use Rattle.session.specs.Session.{Session, Said, Called, called, callOf}
+use Rattle.session.specs.Session.{Session, Called, called, callOf}
 use Rattle.session.specs.Book.{Book, made, performAll, stateIn, refusedBy, taken, withMoves, checkIn, slotsIn, verdict, step, says}
 use Rattle.session.specs.Demand3.{boardIn}
 use Rattle.session.proofs.Plays.{Passes, moveNo, plays-take, plays-next, perform-append, perform-next}
-use Rattle.session.proofs.Refusals.{first-last, passes-unsolved, passes-allowed, refused-make, refused-undo, refused-redo, refused-check}
+use Rattle.session.proofs.Refusals.{passes-unsolved, passes-allowed, refused-make, refused-undo, refused-redo, refused-check}
 use Rattle.session.proofs.Reached.{reached-fit}
-use Rattle.session.proofs.Good.{Good, standing-plays, make-room, make-passes, undo-unsolved, undo-some, redo-unsolved, redo-some, check-room}
+use Rattle.session.proofs.Good.{Good, make-room, undo-unsolved, undo-some, redo-some, check-room}
 use Rattle.session.proofs.Held.{Held, good-board, held-slot, held-make, held-check}
 
 -- the board that holds a book's, with memory
