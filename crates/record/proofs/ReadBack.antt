@@ -1,12 +1,10 @@
 -- Reading back what was written: where the undone count and the checks' standing counts fit two bytes, the bytes of a record's parts are well formed, and hold these parts.
 -- Assumes nothing.
-use Prim.Native.Nat.{ℕ, zero, suc, _+_, _*_, _/_, _%_, _≤_, _<_}
+use Prim.Native.Nat.{ℕ, zero, suc, _≤_, _<_}
 use mathlib.Core.Path.{_≡_, refl, sym, ap, _∙_}
 use mathlib.Core.Bool.{Bool, true, false}
 use mathlib.Core.List.{List, [], _∷_, _++_, map, append-assoc}
 use native.Mathlib.Omega.{arith}
-use borrow.Author.Tests.{le-leb}
-use lib.Dec.{leb}
 use lib.ListN.{length, length-append}
 use Rattle.sudoku.specs.Tests.{pick}
 use Rattle.sudoku.proofs.Walks.{pick-true}
@@ -15,7 +13,7 @@ use Rattle.puzzle.specs.declared.Refusal.{Refusal}
 use Rattle.puzzle.specs.Refusals.{refusal, accepted}
 use Rattle.journal.specs.declared.Move.{Move}
 use Rattle.journal.specs.declared.Move.the-variants.{Place, Erase, WriteMark, StrikeMark}
-use Rattle.journal.specs.Bytes.{low, second, two}
+use Rattle.journal.proofs.Memory.{two-bytes}
 use Rattle.record.specs.declared.Item.{Item}
 use Rattle.record.specs.declared.Item.the-variants.{Given, Played, Undone, Check}
 use Rattle.record.specs.declared.Asked.{Asked}
@@ -35,11 +33,6 @@ Fits (Check standing row column digit) = standing < 65536
 abbrev pub CheckFits : Asked → Type 0
 CheckFits c = c .standing < 65536
 
--- a number of two bytes is read as it was written
-pub two-back : (n : ℕ) → n < 65536 → two (low n) (second n) ≡ n
-unfolding two low second
-two-back n h = omega arith
-
 -- ---- the items, read
 
 -- a list of items, read to the end of the bytes
@@ -55,9 +48,9 @@ take-first fuel (Played (Place row column digit)) bytes h = refl
 take-first fuel (Played (Erase row column)) bytes h = refl
 take-first fuel (Played (WriteMark row column digit)) bytes h = refl
 take-first fuel (Played (StrikeMark row column digit)) bytes h = refl
-take-first fuel (Undone n) bytes h = ap (λ (k : ℕ). then (Undone k) (itemsIn fuel bytes)) (two-back n h)
+take-first fuel (Undone n) bytes h = ap (λ (k : ℕ). then (Undone k) (itemsIn fuel bytes)) (two-bytes n h)
 take-first fuel (Check standing row column digit) bytes h =
-    ap (λ (k : ℕ). then (Check k row column digit) (itemsIn fuel bytes)) (two-back standing h)
+    ap (λ (k : ℕ). then (Check k row column digit) (itemsIn fuel bytes)) (two-bytes standing h)
 
 -- with fuel for each of them
 pub items-read : (fuel : ℕ) (is : List Item) → Each Fits is → length is ≤ fuel → itemsIn fuel (encodeAll is) ≡ stream is
@@ -95,16 +88,17 @@ unfolding stream checkItem scan mayStand reached pick
 checks-stand n [] = refl
 checks-stand n (c ∷ cs) = checks-stand (suc n) cs
 
-moves-stand : (phase n : ℕ) (ms : List Move) (u : ℕ) (cs : List Asked) → leb phase 1 ≡ true
-    → scan phase n (stream (map Played ms ++ Undone u ∷ map checkItem cs)) ≡ accepted
+-- in a phase where moves and the undone count may stand
+moves-stand : (phase n : ℕ) (ms : List Move) (u : ℕ) (cs : List Asked) → ((m : Move) → mayStand phase (Played m) ≡ true)
+    → mayStand phase (Undone u) ≡ true → scan phase n (stream (map Played ms ++ Undone u ∷ map checkItem cs)) ≡ accepted
 unfolding stream scan mayStand reached
-moves-stand phase n [] u cs h = pick-true _ _ _ h ∙ checks-stand (suc n) cs
-moves-stand phase n (m ∷ ms) u cs h = pick-true _ _ _ h ∙ moves-stand 1 (suc n) ms u cs refl
+moves-stand phase n [] u cs move undone = pick-true _ _ _ undone ∙ checks-stand (suc n) cs
+moves-stand phase n (m ∷ ms) u cs move undone = pick-true _ _ _ (move m) ∙ moves-stand 1 (suc n) ms u cs (λ k. refl) refl
 
 givens-stand : (n : ℕ) (gs : List Setters) (ms : List Move) (u : ℕ) (cs : List Asked)
     → scan 0 n (stream (map givenItem gs ++ (map Played ms ++ Undone u ∷ map checkItem cs))) ≡ accepted
 unfolding stream givenItem scan mayStand reached pick
-givens-stand n [] ms u cs = moves-stand 0 n ms u cs refl
+givens-stand n [] ms u cs = moves-stand 0 n ms u cs (λ m. refl) refl
 givens-stand n (g ∷ gs) ms u cs = givens-stand (suc n) gs ms u cs
 
 -- ---- their parts
@@ -149,12 +143,15 @@ module _ (p : Parts) where
     unfolding recordOf
     record-items = items-back (itemsOf p) items-fit
 
+    scanned : (n : ℕ) → scan 0 n (itemsOfBytes (recordOf p)) ≡ accepted
+    scanned n =
+        ap (λ (s : Items). scan 0 n s) (record-items ∙ ap stream items-grouped)
+        ∙ givens-stand n (p .givens) (p .moves) (p .undone) (p .checks)
+
     -- it is well formed
     pub record-formed : malformed (recordOf p) ≡ accepted
     unfolding malformed
-    record-formed =
-        ap (λ (s : Items). scan 0 1 s) (record-items ∙ ap stream items-grouped)
-        ∙ givens-stand 1 (p .givens) (p .moves) (p .undone) (p .checks)
+    record-formed = scanned _
 
     -- and holds the parts that it was made of
     pub record-parts : partsOfBytes (recordOf p) ≡ p

@@ -20,8 +20,36 @@ use Rattle.puzzle.proofs.Posed.{Vouched, vouched, vouches}
 use Rattle.journal.specs.Limits.{maxMoves, maxChecks}
 use Rattle.record.specs.declared.Asked.{Asked}
 use Rattle.record.specs.Items.{Parts}
-use Rattle.record.specs.Scan.{Items, ended, cut, then, itemsOfBytes, reached, mayStand, scan, malformed, partsOfBytes}
+use Rattle.record.specs.Scan.{Items, ended, cut, then, takeItem, byKind, body2, body3, body5, goOn, itemsIn, itemsOfBytes, reached, mayStand, scan, malformed, partsOfBytes}
 use Rattle.record.specs.Reopen.{anyLate, oversized, miscounted, unreadable}
+
+-- ---- small records and counts, computed
+
+-- no bytes: kind 6 is missing, and no item stands before
+pub no-bytes : malformed [] ≡ refusal 17 1 0
+unfolding malformed itemsOfBytes itemsIn scan pick
+no-bytes = refl
+
+-- a second undone count, and a check before it, can't stand
+pub two-undone : malformed (6 ∷ 0 ∷ 0 ∷ 6 ∷ 0 ∷ 0 ∷ []) ≡ refusal 17 2 0
+unfolding malformed itemsOfBytes itemsIn takeItem byKind body2 body3 body5 goOn scan mayStand reached pick
+two-undone = refl
+
+pub check-first : malformed (7 ∷ 1 ∷ 0 ∷ 1 ∷ 1 ∷ 5 ∷ 6 ∷ 0 ∷ 0 ∷ []) ≡ refusal 17 1 0
+unfolding malformed itemsOfBytes itemsIn takeItem byKind body2 body3 body5 goOn scan mayStand reached pick
+check-first = refl
+
+-- a check's standing may be the limit, and no more
+abbrev askedAfter : ℕ → Asked
+askedAfter standing = record { standing = standing; row = 1; column = 1; digit = 5 }
+
+pub at-limit : anyLate (askedAfter maxMoves ∷ []) ≡ false
+unfolding anyLate either
+at-limit = refl
+
+pub past-limit : anyLate (askedAfter (suc maxMoves) ∷ []) ≡ true
+unfolding anyLate either
+past-limit = refl
 
 -- ---- 17
 
@@ -62,11 +90,11 @@ scan-accepted phase n (then i is) h =
 
 pub formed : (bytes : List ℕ) → isAccepted (malformed bytes) ≡ true → malformed bytes ≡ accepted
 unfolding malformed
-formed bytes h = scan-accepted 0 1 (itemsOfBytes bytes) h
+formed bytes h = scan-accepted 0 _ (itemsOfBytes bytes) h
 
 -- ---- 18
 
--- a check's standing may be the limit itself
+-- a check's standing is within the limit
 abbrev pub InTime : Asked → Type 0
 InTime c = c .standing ≤ maxMoves
 
@@ -118,6 +146,15 @@ module _ (p : Parts) where
       (either-false _ _ (not-is-false _ (le-leb _ _ (s .moves)))
       (either-false _ _ (not-is-false _ (le-leb _ _ (s .checks))) (none-late (p .checks) (s .in-time))))
 
+  pub counted-of : Counted p → miscounted p ≡ accepted
+  unfolding miscounted
+  counted-of c =
+      or-else-of _ _ (accepts _ (if-not _ (refusal 20 0 0) (le-ltb _ _ (c .undone))))
+      (if-not _ (refusal 21 0 0)
+      (by-test (eqb (length (p .moves)) 0)
+      (λ t. both-false-right _ _ (not-is-false _ (eq-eqb (length (p .checks)) 0 (c .asked (eqb-true (length (p .moves)) 0 t)))))
+      (λ t. both-false-left _ _ t)))
+
   pub counted : isAccepted (miscounted p) ≡ true → Counted p
   unfolding miscounted isAccepted
   counted h =
@@ -131,15 +168,6 @@ module _ (p : Parts) where
             (not-both-ways _ (both-true _ _ (eq-eqb (length (p .moves)) 0 e) (ap not t))
             (if-passed _ (refusal 21 0 0) refl (or-else-right (refusedIf (ltb (length (p .moves)) (p .undone)) (refusal 20 0 0)) _ h))));
       }
-
-  pub counted-of : Counted p → miscounted p ≡ accepted
-  unfolding miscounted
-  counted-of c =
-      or-else-of _ _ (accepts _ (if-not _ (refusal 20 0 0) (le-ltb _ _ (c .undone))))
-      (if-not _ (refusal 21 0 0)
-      (by-test (eqb (length (p .moves)) 0)
-      (λ t. both-false-right _ _ (not-is-false _ (eq-eqb (length (p .checks)) 0 (c .asked (eqb-true (length (p .moves)) 0 t)))))
-      (λ t. both-false-left _ _ t)))
 
 -- ---- 17 to 27
 

@@ -15,7 +15,8 @@ use Rattle.puzzle.specs.declared.Refusal.{Refusal}
 use Rattle.puzzle.specs.Refusals.{refusal, accepted}
 use Rattle.journal.specs.declared.Move.{Move}
 use Rattle.journal.specs.declared.Move.the-variants.{Place, Erase, WriteMark, StrikeMark}
-use Rattle.journal.specs.Bytes.{low, second, two}
+use Rattle.journal.specs.Bytes.{two}
+use Rattle.journal.proofs.Memory.{low-two, second-two}
 use Rattle.record.specs.declared.Item.{Item}
 use Rattle.record.specs.declared.Item.the-variants.{Given, Played, Undone, Check}
 use Rattle.record.specs.declared.Asked.{Asked}
@@ -27,15 +28,7 @@ use Rattle.record.proofs.ReadBack.{Fits, CheckFits, items-grouped}
 abbrev pub IsByte : ℕ → Type 0
 IsByte n = n < 256
 
--- two bytes are written as they were read
-pub low-two : (a b : ℕ) → a < 256 → low (two a b) ≡ a
-unfolding low two
-low-two a b h = omega arith
-
-pub second-two : (a b : ℕ) → a < 256 → b < 256 → second (two a b) ≡ b
-unfolding second two
-second-two a b h g = omega arith
-
+-- two bytes make a number that fits them
 pub two-fits : (a b : ℕ) → a < 256 → b < 256 → two a b < 65536
 unfolding two
 two-fits a b h g = omega arith
@@ -99,10 +92,10 @@ taken-joins kind l h =
     (λ e. joins2 kind _ l h (λ a b rest p q. (ap (λ (k : ℕ). k ∷ a ∷ b ∷ rest) (sym e), tt)))
     (λ e. joins3 kind _ l h (λ a b c rest. (ap (λ (k : ℕ). k ∷ a ∷ b ∷ c ∷ rest) (sym e), tt)))
     (λ e. joins3 kind _ l h (λ a b c rest. (ap (λ (k : ℕ). k ∷ a ∷ b ∷ c ∷ rest) (sym e), tt)))
-    (λ e. joins2 kind _ l h (λ a b rest p q. ((λ i. sym e i ∷ low-two a b p i ∷ second-two a b p q i ∷ rest), two-fits a b p q)))
+    (λ e. joins2 kind _ l h (λ a b rest p q. ((λ i. sym e i ∷ low-two a b p q i ∷ second-two a b p q i ∷ rest), two-fits a b p q)))
     (λ e.
     joins5 kind _ l h
-    (λ a b c d f rest p q. ((λ i. sym e i ∷ low-two a b p i ∷ second-two a b p q i ∷ c ∷ d ∷ f ∷ rest), two-fits a b p q)))
+    (λ a b c d f rest p q. ((λ i. sym e i ∷ low-two a b p q i ∷ second-two a b p q i ∷ c ∷ d ∷ f ∷ rest), two-fits a b p q)))
     tt
 
 -- ---- the items
@@ -222,11 +215,11 @@ givens-order n (then (Check standing row column digit) is) h =
 module _ (bytes : List ℕ) (are : Each IsByte bytes) (h : malformed bytes ≡ accepted) where
   covered : (encodeAll (listIn (itemsOfBytes bytes)) ≡ bytes) × Each Fits (listIn (itemsOfBytes bytes))
   unfolding malformed itemsOfBytes Covers
-  covered = items-cover (length bytes) bytes are (formed-whole 0 1 (itemsOfBytes bytes) h)
+  covered = items-cover (length bytes) bytes are (formed-whole 0 _ (itemsOfBytes bytes) h)
 
   ordered : itemsOf (partsOfBytes bytes) ≡ listIn (itemsOfBytes bytes)
   unfolding malformed partsOfBytes
-  ordered = items-grouped (partsOfBytes bytes) ∙ givens-order 1 (itemsOfBytes bytes) h
+  ordered = items-grouped (partsOfBytes bytes) ∙ givens-order _ (itemsOfBytes bytes) h
 
   -- the bytes are the record of the parts that they hold
   pub bytes-record : recordOf (partsOfBytes bytes) ≡ bytes
