@@ -1,7 +1,7 @@
 -- The givens of a board are those it was opened with: each cell of a given is marked, holds its digit, and the cells rise.
 -- Assumes nothing.
 use Prim.Native.Nat.{ℕ, zero, suc, _+_, _-_, _≤_, _<_}
-use mathlib.Core.Path.{_≡_, refl, sym, ap, subst, _∙_}
+use mathlib.Core.Path.{_≡_, refl, sym, ap, _∙_}
 use mathlib.Core.Bool.{Bool, true, false, not}
 use mathlib.Core.List.{List, [], _∷_}
 use native.Mathlib.Omega.{arith}
@@ -9,7 +9,7 @@ use borrow.Author.Tests.{eqb-true}
 use lib.Dec.{eqb}
 use lib.ListN.{length, getD}
 use Rattle.sudoku.specs.Tests.{bit, keep, count}
-use Rattle.sudoku.specs.Grid.{onGrid, cellOf, isCell, rowOf, columnOf, at}
+use Rattle.sudoku.specs.Grid.{isCell, rowOf, columnOf, at}
 use Rattle.sudoku.proofs.Walks.{by-test, count-same}
 use Rattle.sudoku.proofs.Grid.{cell-to, is-cell, cell-of-is-cell, row-of-cell, column-of-cell}
 use Rattle.sudoku.proofs.Each.{Each}

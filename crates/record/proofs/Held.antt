@@ -1,22 +1,19 @@
 -- What lent memory holds that begins with the bytes of slots, or of stored checks: the moves and the checks that writing reads there, and that none of them is unsound.
 -- Assumes nothing.
-use Prim.Native.Nat.{ℕ, zero, suc, _+_, _-_, _*_, _^_, _≤_, _<_}
+use Prim.Native.Nat.{ℕ, suc, _+_, _-_, _*_, _^_, _≤_, _<_}
 use mathlib.Core.Path.{_≡_, refl, sym, ap, subst, _∙_}
-use mathlib.Core.Bool.{Bool, true, false, not}
+use mathlib.Core.Bool.{true, false, not}
 use mathlib.Core.List.{List, [], _∷_, _++_, map}
 use native.Mathlib.Nat.{zero-add}
 use native.Mathlib.Omega.{arith}
-use borrow.Author.Tests.{leb-true, le-leb}
-use lib.Dec.{leb}
+use borrow.Author.Tests.{le-leb}
 use lib.ListN.{length, getD, take, drop, take-append-drop}
-use Rattle.sudoku.specs.Tests.{both, bit, listed}
+use Rattle.sudoku.specs.Tests.{bit, listed}
 use Rattle.sudoku.specs.Grid.{inRange, onGrid, cellOf}
 use Rattle.sudoku.proofs.Walks.{not-is-false, both-true, bit-le}
 use Rattle.sudoku.proofs.Each.{Each, each-at}
-use Rattle.puzzle.specs.declared.Refusal.{Refusal}
-use Rattle.puzzle.specs.Refusals.{refusal, accepted, isAccepted, firstRefused}
+use Rattle.puzzle.specs.Refusals.{refusal, accepted, firstRefused}
 use Rattle.puzzle.proofs.Accepted.{accepts, if-not, first-of}
-use Rattle.journal.specs.declared.Move.{Move}
 use Rattle.journal.specs.declared.Slot.{Slot}
 use Rattle.journal.specs.Limits.{maxMoves, slotBytes, checkBytes}
 use Rattle.journal.specs.State.{State, isGiven}

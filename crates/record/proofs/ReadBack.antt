@@ -1,16 +1,15 @@
 -- Reading back what was written: where the undone count and the checks' standing counts fit two bytes, the bytes of a record's parts are well formed, and hold these parts.
 -- Assumes nothing.
 use Prim.Native.Nat.{ℕ, zero, suc, _≤_, _<_}
-use mathlib.Core.Path.{_≡_, refl, sym, ap, _∙_}
-use mathlib.Core.Bool.{Bool, true, false}
+use mathlib.Core.Path.{_≡_, refl, ap, _∙_}
+use mathlib.Core.Bool.{true}
 use mathlib.Core.List.{List, [], _∷_, _++_, map, append-assoc}
 use native.Mathlib.Omega.{arith}
 use lib.ListN.{length, length-append}
 use Rattle.sudoku.specs.Tests.{pick}
 use Rattle.sudoku.proofs.Walks.{pick-true}
 use Rattle.puzzle.specs.declared.Given.{Given as Setters}
-use Rattle.puzzle.specs.declared.Refusal.{Refusal}
-use Rattle.puzzle.specs.Refusals.{refusal, accepted}
+use Rattle.puzzle.specs.Refusals.{accepted}
 use Rattle.journal.specs.declared.Move.{Move}
 use Rattle.journal.specs.declared.Move.the-variants.{Place, Erase, WriteMark, StrikeMark}
 use Rattle.journal.proofs.Memory.{two-bytes}
@@ -18,7 +17,7 @@ use Rattle.record.specs.declared.Item.{Item}
 use Rattle.record.specs.declared.Item.the-variants.{Given, Played, Undone, Check}
 use Rattle.record.specs.declared.Asked.{Asked}
 use Rattle.record.specs.Items.{Parts, encode, encodeAll, givenItem, checkItem, itemsOf, recordOf}
-use Rattle.record.specs.Scan.{Items, ended, cut, then, takeItem, byKind, body2, body3, body5, goOn, itemsIn, itemsOfBytes, reached, mayStand, scan, malformed, add, noParts, partsIn, partsOfBytes}
+use Rattle.record.specs.Scan.{Items, ended, then, takeItem, byKind, body2, body3, body5, goOn, itemsIn, itemsOfBytes, reached, mayStand, scan, malformed, add, noParts, partsIn, partsOfBytes}
 use Rattle.sudoku.proofs.Each.{Each, each-append, each-all, each-map}
 
 -- ---- what fits two bytes

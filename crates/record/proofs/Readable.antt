@@ -1,20 +1,18 @@
 -- What 17 to 27 ask of a record before any move is performed: the tests against what they mean, both ways. And 17's place: one more than the items that stand before.
 -- Assumes nothing.
-use Prim.Native.Nat.{ℕ, zero, suc, _+_, _≤_, _<_}
+use Prim.Native.Nat.{ℕ, suc, _+_, _≤_}
 use mathlib.Core.Path.{_≡_, refl, sym, ap, _∙_}
-use mathlib.Core.Bool.{Bool, true, false, not}
+use mathlib.Core.Bool.{true, false, not}
 use mathlib.Core.List.{List, [], _∷_}
 use native.Mathlib.Omega.{arith}
-use borrow.Author.Tests.{leb-true, le-leb, lt-leb, ltb-false, le-ltb, eqb-true, eqb-false, eq-eqb, not-true, not-false}
+use borrow.Author.Tests.{leb-true, le-leb, lt-leb, ltb-false, le-ltb, eqb-true, eq-eqb, not-false}
 use lib.Dec.{leb, ltb, eqb}
 use lib.ListN.{length}
-use Rattle.sudoku.specs.Tests.{pick, both, either}
+use Rattle.sudoku.specs.Tests.{pick, either}
 use Rattle.sudoku.proofs.Walks.{by-test, not-both-ways, not-is-false, either-left, either-false, either-false-left, either-false-right, both-true, both-false-left, both-false-right, pick-true, pick-false}
 use Rattle.sudoku.proofs.Each.{Each}
-use Rattle.puzzle.specs.declared.Refusal.{Refusal}
-use Rattle.puzzle.specs.Refusals.{refusal, accepted, isAccepted, refusedIf, orElse}
+use Rattle.puzzle.specs.Refusals.{refusal, accepted, isAccepted, refusedIf}
 use Rattle.puzzle.specs.Givens.{ascending}
-use Rattle.puzzle.specs.Vouch.{vouch}
 use Rattle.puzzle.proofs.Accepted.{accepts, if-not, if-passed, or-else-of, or-else-left, or-else-right, or-else-parts}
 use Rattle.puzzle.proofs.Posed.{Vouched, vouched, vouches}
 use Rattle.journal.specs.Limits.{maxMoves, maxChecks}

@@ -1,28 +1,25 @@
 -- Writing back what was read: bytes that are well formed are the record of the parts that they hold, and the numbers of these parts fit two bytes.
 -- Assumes nothing.
-use Prim.Native.Nat.{ℕ, zero, suc, _+_, _*_, _/_, _%_, _≤_, _<_}
+use Prim.Native.Nat.{ℕ, zero, suc, _<_}
 use mathlib.Core.Path.{_≡_, refl, sym, ap, subst, _∙_}
-use mathlib.Core.Bool.{Bool, true, false}
-use mathlib.Core.List.{List, [], _∷_, _++_, map, append-assoc}
+use mathlib.Core.Bool.{true, false}
+use mathlib.Core.List.{List, [], _∷_, _++_, map}
 use native.Mathlib.Omega.{arith}
 use borrow.Author.Tests.{eqb-true}
-use lib.Dec.{leb, eqb}
+use lib.Dec.{eqb}
 use lib.ListN.{length, getD}
 use Rattle.sudoku.specs.Tests.{pick}
 use Rattle.sudoku.proofs.Walks.{by-test, not-both-ways, pick-true, pick-false}
-use Rattle.puzzle.specs.declared.Given.{Given as Setters}
 use Rattle.puzzle.specs.declared.Refusal.{Refusal}
 use Rattle.puzzle.specs.Refusals.{refusal, accepted}
 use Rattle.journal.specs.declared.Move.{Move}
-use Rattle.journal.specs.declared.Move.the-variants.{Place, Erase, WriteMark, StrikeMark}
 use Rattle.journal.specs.Bytes.{two}
 use Rattle.journal.proofs.Memory.{low-two, second-two}
 use Rattle.record.specs.declared.Item.{Item}
 use Rattle.record.specs.declared.Item.the-variants.{Given, Played, Undone, Check}
-use Rattle.record.specs.declared.Asked.{Asked}
-use Rattle.record.specs.Items.{Parts, encode, encodeAll, givenItem, checkItem, itemsOf, recordOf}
+use Rattle.record.specs.Items.{encode, encodeAll, givenItem, checkItem, itemsOf, recordOf}
 use Rattle.record.specs.Scan.{Taken, got, broken, Items, ended, cut, then, takeItem, byKind, body2, body3, body5, goOn, itemsIn, itemsOfBytes, reached, mayStand, scan, malformed, add, noParts, partsIn, partsOfBytes}
-use Rattle.sudoku.proofs.Each.{Each, each-of, each-append, each-left, each-right, each-unmap}
+use Rattle.sudoku.proofs.Each.{Each, each-of, each-right, each-unmap}
 use Rattle.record.proofs.ReadBack.{Fits, CheckFits, items-grouped}
 
 abbrev pub IsByte : ℕ → Type 0
