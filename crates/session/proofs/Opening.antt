@@ -1,21 +1,18 @@
 -- Givens open with a solution exactly where opening's tests refuse nothing; what then holds of the givens and of the fresh state; and that opening
 -- them returns the fresh board.
 -- Assumes nothing.
-use Prim.Native.Nat.{ℕ, _-_, _%_, _≤_, _<_}
-use mathlib.Core.Path.{_≡_, refl, sym, ap, _∙_}
-use mathlib.Core.Bool.{Bool, true, false}
+use Prim.Native.Nat.{ℕ, _%_}
+use mathlib.Core.Path.{_≡_, sym, _∙_}
+use mathlib.Core.Bool.{true, false}
 use mathlib.Core.List.{List}
-use native.Mathlib.Omega.{arith}
 use borrow.Author.Tests.{eq-eqb}
-use lib.Dec.{eqb}
 use lib.ListN.{length}
-use Rattle.sudoku.specs.Tests.{pick, both}
-use Rattle.sudoku.specs.Grid.{inRange, isCell, at}
+use Rattle.sudoku.specs.Grid.{isCell, at}
 use Rattle.sudoku.proofs.Walks.{both-true, pick-true}
 use Rattle.sudoku.proofs.Each.{Each, each-at, each-of}
 use Rattle.puzzle.specs.declared.Given.{Given}
-use Rattle.puzzle.specs.Refusals.{accepted, isAccepted}
-use Rattle.puzzle.specs.Givens.{given, triples, digitsOf, givenCells, ascending}
+use Rattle.puzzle.specs.Refusals.{accepted}
+use Rattle.puzzle.specs.Givens.{given, triples, digitsOf, ascending}
 use Rattle.puzzle.specs.Puzzle.{isFull}
 use Rattle.puzzle.specs.Vouch.{wellPosed}
 use Rattle.puzzle.proofs.Accepted.{accepts}
@@ -23,9 +20,9 @@ use Rattle.puzzle.proofs.Order.{ascends-at, ascends-of}
 use Rattle.puzzle.proofs.Givens.{OnGrid, Matches, Rising, marked, given-at, given-digit, free-digit, fresh-not-full}
 use Rattle.puzzle.proofs.Posed.{Vouched, posed-ascends, posed-vouched, posed, vouched-rising}
 use Rattle.journal.specs.Limits.{journalBytes, checkMemory}
-use Rattle.journal.specs.State.{State, opening, isGiven, digitAt, noteAt}
+use Rattle.journal.specs.State.{opening, isGiven, digitAt, noteAt}
 use Rattle.journal.proofs.Moves.{Fit, fit-opening, empty-note}
-use Rattle.board.specs.Open.{lentLengths, openOf, openedFresh, turnedAway, wrongLength}
+use Rattle.board.specs.Open.{lentLengths, openOf, openedFresh}
 use Rattle.session.specs.Opens.{Opens, nth}
 
 -- ---- the words of `Opens` and the tests

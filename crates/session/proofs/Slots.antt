@@ -1,24 +1,20 @@
 -- The slots that moves fill, as a list: their bytes, their moves, and that each is sound. So a journal that begins with the bytes of a book's slots holds its moves,
 -- and writing finds none of them unsound.
 -- Assumes nothing.
-use Prim.Native.Nat.{ℕ, zero, suc, _+_, _-_, _*_, _^_, _≤_, _<_}
-use mathlib.Core.Path.{_≡_, refl, sym, ap, subst, _∙_}
-use mathlib.Core.Bool.{Bool, true, false, not}
+use Prim.Native.Nat.{ℕ, zero, suc, _+_, _*_, _<_}
+use mathlib.Core.Path.{_≡_, refl, sym, ap, _∙_}
 use mathlib.Core.List.{List, [], _∷_, _++_, map}
 use native.Mathlib.Nat.{le-of-suc-le-suc, not-suc-le-zero}
 use native.Mathlib.Omega.{arith}
 use lib.ListN.{length, getD, take}
-use Rattle.sudoku.specs.Grid.{onGrid, cellOf}
-use Rattle.sudoku.specs.Tests.{both, either}
 use Rattle.sudoku.proofs.Each.{Each}
 use Rattle.puzzle.specs.Refusals.{accepted, firstRefused}
 use Rattle.journal.specs.declared.Move.{Move}
-use Rattle.journal.specs.declared.Move.the-variants.{Erase}
 use Rattle.journal.specs.declared.Slot.{Slot}
 use Rattle.journal.specs.Limits.{slotBytes}
-use Rattle.journal.specs.State.{State, isGiven, perform, struck}
+use Rattle.journal.specs.State.{State, isGiven, perform}
 use Rattle.journal.specs.Slots.{slotFor, bytesOf, slotAt, moveOf, isSound}
-use Rattle.journal.proofs.Moves.{Fit, Allowed, fit-perform, given-kept, mask-small, move-kept, slot-sound}
+use Rattle.journal.proofs.Moves.{Fit, fit-perform, given-kept, mask-small, move-kept, slot-sound}
 use Rattle.journal.proofs.Memory.{slotsBytes}
 use Rattle.play.specs.Play.{unsoundSlot}
 use Rattle.record.specs.Write.{movesOf}
