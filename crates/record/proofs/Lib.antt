@@ -4,3 +4,5 @@ pub mod Lengths
 pub mod Givens
 pub mod Readable
 pub mod Held
+pub mod KindBytes
+pub mod Scanning

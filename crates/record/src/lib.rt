@@ -2,6 +2,9 @@
 use journal::Move;
 use puzzle::Refusal;
 
+pub mod items;
+pub mod scan;
+
 // An item of the record.
 pub enum Item {
     Given {
@@ -32,4 +35,54 @@ pub struct Asked {
 pub struct Written {
     pub refusal: Refusal,
     pub length: usize,
+}
+
+// The groups of a record's items, in their order; Count is the undone count. No item has the last one's kind.
+pub enum Group {
+    Givens,
+    Moves,
+    Count,
+    Checks,
+    Malformed,
+}
+
+// What a kind byte decides: the item's group, and how many bytes of body follow.
+pub struct Shape {
+    pub group: Group,
+    pub body: usize,
+}
+
+// What stands at an offset: a whole item, and where the next one starts.
+pub enum Read {
+    Whole { item: Item, next: usize },
+    Nothing,
+}
+
+// How far a scan has come: phase 0 among the givens, 1 among the moves, 2 after the undone count; the next item's number and where it starts; what was counted so far.
+pub struct Progress {
+    pub phase: u8,
+    pub item: usize,
+    pub at: usize,
+    pub givens: usize,
+    pub moves: usize,
+    pub undone: usize,
+    pub checks: usize,
+    // a check's standing is above the limit
+    pub late: bool,
+}
+
+// One item of a scan: it stands where it may, or the record is malformed there.
+pub enum Step {
+    Next(Progress),
+    Stopped,
+}
+
+// What a scan of a whole record answers: 17, or the counts; zeros beside a refusal.
+pub struct Scanned {
+    pub refusal: Refusal,
+    pub givens: usize,
+    pub moves: usize,
+    pub undone: usize,
+    pub checks: usize,
+    pub late: bool,
 }
