@@ -1,19 +1,19 @@
 -- The laws of givens on the grid: which cells they mark, what digits they hold, and how many there are.
 -- Givens that ascend and match a solution stand at cells that rise, so no cell has two.
 -- Assumes nothing.
-use Prim.Native.Nat.{ℕ, zero, suc, _+_, _-_, _*_, _≤_, _<_}
+use Prim.Native.Nat.{ℕ, zero, suc, _+_, _-_, _≤_, _<_}
 use mathlib.Core.Path.{_≡_, refl, sym, ap, subst, _∙_}
-use mathlib.Core.Bool.{Bool, true, false, not}
+use mathlib.Core.Bool.{Bool, true, false}
 use mathlib.Core.List.{List, [], _∷_}
 use native.Mathlib.Omega.{arith}
 use borrow.Author.Tests.{eqb-true, eqb-false, ne-eqb, ltb-true, not-true}
 use lib.Dec.{ltb, eqb}
-use lib.ListN.{length, getD, set, replicate, length-set, length-replicate, getD-replicate}
+use lib.ListN.{length, getD, set, replicate, length-set, getD-replicate}
 use lib.Seq.{getD-set-same, getD-set-other}
 use Rattle.sudoku.specs.Tests.{pick, both, either, bit, every, count}
-use Rattle.sudoku.specs.Grid.{inRange, onGrid, cellOf, isCell, at, put}
-use Rattle.sudoku.proofs.Walks.{by-test, not-both-ways, both-left, both-right, either-cases, either-left, either-right, either-second, either-false, either-false-left, either-false-right, pick-true, pick-false, every-not, every-at, every-of, count-every, count-same, Place}
-use Rattle.sudoku.proofs.Grid.{cell-from, cell-to, is-cell, at-put, at-put-by, length-put, cell-on, cell-of-is-cell, grid-row, grid-column, range-from, range-to}
+use Rattle.sudoku.specs.Grid.{onGrid, cellOf, isCell, at, put}
+use Rattle.sudoku.proofs.Walks.{by-test, not-both-ways, both-left, both-right, either-cases, either-left, either-second, either-false, either-false-left, either-false-right, pick-true, pick-false, every-not, every-at, count-every, count-same, Place}
+use Rattle.sudoku.proofs.Grid.{cell-from, cell-to, is-cell, at-put-by, length-put, cell-on, cell-of-is-cell, grid-row, grid-column, range-from, range-to}
 use Rattle.sudoku.proofs.Each.{Each}
 use Rattle.puzzle.specs.declared.Given.{Given}
 use Rattle.puzzle.specs.Givens.{precedes, ascendFrom, ascending, putGivens, markGivens, digitsOf, givenCells}

@@ -1,27 +1,25 @@
 -- Opening's tests against what they mean: none of 19 and 22 to 27 applies exactly where the givens ascend, are fewer than 81, are on the grid and
 -- match the solution, and the solution has a digit 1 to 9 at each cell and no two peers that are equal.
 -- Assumes nothing.
-use Prim.Native.Nat.{ℕ, zero, suc, _+_, _≤_, _<_}
-use mathlib.Core.Path.{_≡_, refl, sym, ap, subst, _∙_}
-use mathlib.Core.Bool.{Bool, true, false, not}
+use Prim.Native.Nat.{ℕ, zero, suc, _≤_, _<_}
+use mathlib.Core.Path.{_≡_, refl, sym, ap, _∙_}
+use mathlib.Core.Bool.{true, not}
 use mathlib.Core.List.{List, [], _∷_}
 use native.Mathlib.Nat.{le-of-suc-le-suc, not-suc-le-zero}
 use native.Mathlib.Omega.{arith}
-use borrow.Author.Tests.{leb-true, leb-false, le-leb, lt-leb, eqb-true, eqb-false, eq-eqb, ne-eqb, not-true, not-false}
-use lib.Dec.{leb, eqb}
+use borrow.Author.Tests.{leb-true, leb-false, le-leb, lt-leb, eqb-true, eqb-false, eq-eqb, ne-eqb, not-false}
+use lib.Dec.{eqb}
 use lib.ListN.{length, getD}
-use Rattle.sudoku.specs.Tests.{pick}
 use Rattle.sudoku.specs.Grid.{inRange, onGrid, isCell, arePeers, peersOf, at}
-use Rattle.sudoku.proofs.Walks.{by-test, not-both-ways, pick-true, pick-false, not-is-false}
+use Rattle.sudoku.proofs.Walks.{by-test, pick-true, pick-false, not-is-false}
 use Rattle.sudoku.proofs.Grid.{cell-from, cell-to, is-cell, in-range, range-from, range-to, peers-length, peers-from, peers-cell, peers-peer, peers-has, PeerAt}
 use Rattle.sudoku.proofs.Each.{Each}
 use Rattle.puzzle.specs.declared.Given.{Given}
-use Rattle.puzzle.specs.declared.Refusal.{Refusal}
-use Rattle.puzzle.specs.Refusals.{refusal, accepted, isAccepted, refusedIf, orElse, firstRefused}
+use Rattle.puzzle.specs.Refusals.{refusal, accepted, isAccepted, refusedIf, firstRefused}
 use Rattle.puzzle.specs.Givens.{ascending}
 use Rattle.puzzle.specs.Vouch.{nothingLeft, solutionDigit, firstHolding, solutionConflict, givenMatches, givensMatch, vouch, wellPosed}
 use Rattle.puzzle.proofs.Accepted.{accepts, if-not, if-passed, or-else-of, or-else-left, or-else-right, or-else-parts, first-of, first-at}
-use Rattle.puzzle.proofs.Givens.{cellIn, OnGrid, Matches, Rising, rising}
+use Rattle.puzzle.proofs.Givens.{OnGrid, Matches, Rising, rising}
 
 -- what 22 to 27 ask
 pub record Vouched (gs : List Given) (solution : List ℕ) : Type 0 where
