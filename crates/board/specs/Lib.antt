@@ -1,3 +1,2 @@
 pub mod Board
 pub mod Open
-pub mod Questions

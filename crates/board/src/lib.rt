@@ -3,7 +3,6 @@ use puzzle::Refusal;
 
 pub mod cell;
 pub mod open;
-pub mod questions;
 pub mod value;
 
 // A board by value, with flat arrays of 81 and open fields. It goes into a call and comes back in its answer.
@@ -34,30 +33,4 @@ pub struct Checked {
     pub refusal: Refusal,
     pub right: bool,
     pub board: Board,
-}
-
-// What the question for one cell answers; zeros beside a refusal.
-#[repr(C)]
-pub struct CellAnswer {
-    pub refusal: Refusal,
-    pub digit: u8,
-    pub given: bool,
-    pub conflicting: bool,
-    // the kept note, and whether it is shown
-    pub note: u16,
-    pub shown: bool,
-}
-
-// What a question answered by yes or no answers; false beside a refusal.
-#[repr(C)]
-pub struct YesNo {
-    pub refusal: Refusal,
-    pub holds: bool,
-}
-
-// What the keypad answers: digits left for a key; 0 beside a refusal.
-#[repr(C)]
-pub struct Left {
-    pub refusal: Refusal,
-    pub left: u8,
 }
