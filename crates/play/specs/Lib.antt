@@ -1,2 +1,3 @@
 pub mod Play
+pub mod Halves
 pub mod Check

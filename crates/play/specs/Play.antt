@@ -58,7 +58,13 @@ moveTests s (StrikeMark row column digit) =
     ∷ (not (contains (noteAt s (cellOf row column)) digit) ⇒ 11)
     ∷ []
 
--- 1 and 2, which every call with a board and a lent journal tests first
+-- 1 and 2, which every call with a board and a lent journal tests first; of the journal they ask its length alone
+unfoldable pub lentBy : Board → ℕ → List Test → List Test
+lentBy b bytes tests = (not (eqb bytes journalBytes) ⇒ 1) ∷ (not (isBoard b) ⇒ 2) ∷ tests
+
+unfoldable pub lentNumber : Board → ℕ → ℕ
+lentNumber b bytes = first (lentBy b bytes [])
+
 unfoldable pub lentTests : Board → List ℕ → List Test → List Test
 lentTests b journal tests = (not (eqb (length journal) journalBytes) ⇒ 1) ∷ (not (isBoard b) ⇒ 2) ∷ tests
 

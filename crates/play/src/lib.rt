@@ -1,1 +1,8 @@
 // Play (board.rs, board/check.rs and board/error.rs of the original): place, erase, the mark calls, undo, redo, check, and the latest and next move.
+// A call gets the board by value and hands it back in its answer; a refused call hands it back as it came, and touches no lent byte.
+
+pub mod back;
+pub mod checks;
+pub mod moves;
+pub mod numbers;
+pub mod shown;

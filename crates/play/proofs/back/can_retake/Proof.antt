@@ -1,0 +1,30 @@
+-- `play::back::can_retake` meets its contract.
+-- Assumes nothing.
+use mathlib.Core.Path.{sym, _∙_}
+use Rattle.sudoku.proofs.Walks.{both-first, both-false-left}
+use Rattle.journal.proofs.SlotLaws.{sound-for}
+use Rattle.board.specs.Board.{stateOf}
+use Rattle.play.specs.Play.{canRetake}
+use borrow.Author.Needs.{needs}
+use Rattle.play.proofs.back.can_retake.Statement.{statement}
+use Rattle.play.proofs.back.can_retake.Tie as tie
+
+is-sound-requires : tie.Need-is-sound-requires
+is-sound-requires c κs = search needs
+
+move-of-requires : tie.Need-move-of-requires
+move-of-requires c κs = search needs
+
+stands-as-found-requires : tie.Need-stands-as-found-requires
+stands-as-found-requires c κs = search needs
+
+returns : tie.Need-returns
+unfolding canRetake stateOf
+returns c = rw (c .stands-as-found .ensures, c .before .move-of .ensures) (sym (both-first _ _ (sound-for (stateOf (c .before .before .before .before .before .before .args .t1)) (c .before .before .before .before .before .before .args .slot) ∙ sym (c .before .before .before .is-sound .ensures) ∙ c .before .before .if1 .taken)))
+
+returns-2 : tie.Need-returns-2
+unfolding canRetake stateOf
+returns-2 c = sym (both-false-left _ _ (sound-for (stateOf (c .before .before .before .before .args .t1)) (c .before .before .before .before .args .slot) ∙ sym (c .before .is-sound .ensures) ∙ c .if1 .left))
+
+pub can-retake-spec : {M : Type 1} → statement M
+can-retake-spec = tie.close (tie.spec is-sound-requires move-of-requires stands-as-found-requires returns returns-2)

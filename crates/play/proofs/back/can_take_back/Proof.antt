@@ -1,0 +1,30 @@
+-- `play::back::can_take_back` meets its contract.
+-- Assumes nothing.
+use mathlib.Core.Path.{sym, _∙_}
+use Rattle.sudoku.proofs.Walks.{both-first, both-false-left}
+use Rattle.journal.proofs.SlotLaws.{sound-for}
+use Rattle.board.specs.Board.{stateOf}
+use Rattle.play.specs.Play.{canTakeBack}
+use borrow.Author.Needs.{needs}
+use Rattle.play.proofs.back.can_take_back.Statement.{statement}
+use Rattle.play.proofs.back.can_take_back.Tie as tie
+
+is-sound-requires : tie.Need-is-sound-requires
+is-sound-requires c κs = search needs
+
+move-of-requires : tie.Need-move-of-requires
+move-of-requires c κs = search needs
+
+stands-as-left-requires : tie.Need-stands-as-left-requires
+stands-as-left-requires c κs = search needs
+
+returns : tie.Need-returns
+unfolding canTakeBack stateOf
+returns c = rw (c .stands-as-left .ensures, c .before .move-of .ensures) (sym (both-first _ _ (sound-for (stateOf (c .before .before .before .before .before .before .args .t1)) (c .before .before .before .before .before .before .args .slot) ∙ sym (c .before .before .before .is-sound .ensures) ∙ c .before .before .if1 .taken)))
+
+returns-2 : tie.Need-returns-2
+unfolding canTakeBack stateOf
+returns-2 c = sym (both-false-left _ _ (sound-for (stateOf (c .before .before .before .before .args .t1)) (c .before .before .before .before .args .slot) ∙ sym (c .before .is-sound .ensures) ∙ c .if1 .left))
+
+pub can-take-back-spec : {M : Type 1} → statement M
+can-take-back-spec = tie.close (tie.spec is-sound-requires move-of-requires stands-as-left-requires returns returns-2)

@@ -1,0 +1,37 @@
+-- `play::back::redo` meets its contract.
+-- Assumes nothing.
+use mathlib.Core.Path.{sym, ap, _∙_}
+use native.Mathlib.Omega.{arith}
+use Rattle.puzzle.specs.declared.Refusal.{Refusal}
+use Rattle.play.specs.Play.{slotRefusal}
+use Rattle.play.proofs.Accepted.{redo-refused, redo-made, redo-below}
+use borrow.Author.Needs.{needs}
+use Rattle.play.proofs.back.redo.Statement.{statement}
+use Rattle.play.proofs.back.redo.Tie as tie
+
+redo-refusal-requires : tie.Need-redo-refusal-requires
+redo-refusal-requires c κs = search needs
+
+returns : tie.Need-returns
+unfolding slotRefusal
+returns c = rw (c .before .redo-refusal .ensures) (redo-refused (c .before .before .before .args .board) (c .before .before .before .args .journal .now) (λ p. c .if1 .taken (ap (λ (r : Refusal). r .number) (c .before .redo-refusal .ensures) ∙ p)))
+
+add-slot-at : tie.Need-add-slot-at
+unfolding slotRefusal
+add-slot-at c = let k = redo-below (c .before .before .before .args .board) (c .before .before .before .args .journal .now) (sym (ap (λ (r : Refusal). r .number) (c .before .redo-refusal .ensures)) ∙ c .if1 .left) in omega (arith, k .0, k .1)
+
+slot-at-requires : tie.Need-slot-at-requires
+slot-at-requires c κs = search needs
+
+redone-requires : tie.Need-redone-requires
+redone-requires c κs = search needs
+
+accepted-requires : tie.Need-accepted-requires
+accepted-requires c κs = search needs
+
+returns-2 : tie.Need-returns-2
+unfolding slotRefusal
+returns-2 c = rw (c .accepted .ensures, c .before .redone .ensures, c .before .before .slot-at .ensures) (redo-made (c .before .before .before .before .before .before .args .board) (c .before .before .before .before .before .before .args .journal .now) (sym (ap (λ (r : Refusal). r .number) (c .before .before .before .before .redo-refusal .ensures)) ∙ c .before .before .before .if1 .left))
+
+pub redo-spec : {M : Type 1} → statement M
+redo-spec = tie.close (tie.spec redo-refusal-requires returns add-slot-at slot-at-requires redone-requires accepted-requires returns-2)

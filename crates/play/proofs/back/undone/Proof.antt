@@ -1,0 +1,33 @@
+-- `play::back::undone` meets its contract: the digit and the marks together are the move taken back.
+-- Assumes nothing.
+use mathlib.Core.Path.{ap}
+use Rattle.journal.specs.State.{State}
+use Rattle.journal.specs.Counts.{takenBack}
+use Rattle.board.specs.Board.{stateOf, countsOf, boardOf, moved}
+use Rattle.play.specs.Play.{undone}
+use Rattle.play.proofs.Halves.{back-halves}
+use borrow.Author.Needs.{needs}
+use Rattle.play.proofs.back.undone.Statement.{statement}
+use Rattle.play.proofs.back.undone.Tie as tie
+
+taken-back-requires : tie.Need-taken-back-requires
+taken-back-requires c κs = search needs
+
+digit-back-requires : tie.Need-digit-back-requires
+digit-back-requires c κs = search needs
+
+move-of-requires : tie.Need-move-of-requires
+move-of-requires c κs = search needs
+
+marks-back-requires : tie.Need-marks-back-requires
+marks-back-requires c κs = search needs
+
+counted-requires : tie.Need-counted-requires
+counted-requires c κs = search needs
+
+returns : tie.Need-returns
+unfolding undone moved boardOf stateOf countsOf
+returns c = rw (c .counted .ensures, c .before .marks-back .ensures, c .before .before .before .digit-back .ensures, c .before .before .move-of .ensures, c .before .before .before .before .taken-back .ensures) (ap (λ (s : State). moved (c .before .before .before .before .before .args .board) s (takenBack (countsOf (c .before .before .before .before .before .args .board)))) (back-halves (stateOf (c .before .before .before .before .before .args .board)) (c .before .before .before .before .before .args .slot)))
+
+pub undone-spec : {M : Type 1} → statement M
+undone-spec = tie.close (tie.spec taken-back-requires digit-back-requires move-of-requires marks-back-requires counted-requires returns)

@@ -1,0 +1,38 @@
+-- `play::checks::store` meets its contract.
+-- Assumes nothing.
+use Rattle.sudoku.specs.Grid.{at}
+use Rattle.journal.specs.State.{digitAt}
+use Rattle.journal.specs.StoredChecks.{judge}
+use Rattle.board.specs.Board.{stateOf, countsOf, boardOf}
+use Rattle.play.specs.Check.{checkOn, withCheck}
+use borrow.Author.Needs.{needs}
+use Rattle.play.proofs.checks.store.Statement.{statement}
+use Rattle.play.proofs.checks.store.Tie as tie
+
+cell-of-requires : tie.Need-cell-of-requires
+cell-of-requires c κs = search needs
+
+digit-at-requires : tie.Need-digit-at-requires
+digit-at-requires c κs = search needs
+
+is-right-requires : tie.Need-is-right-requires
+is-right-requires c κs = search needs
+
+write-check-requires : tie.Need-write-check-requires
+write-check-requires c κs = search needs
+
+add-next : tie.Need-add-next
+add-next c = search needs
+
+accepted-requires : tie.Need-accepted-requires
+accepted-requires c κs = search needs
+
+same-length : tie.Need-same-length
+same-length c = search needs
+
+returns : tie.Need-returns
+unfolding checkOn judge withCheck digitAt stateOf boardOf countsOf
+returns c = (rw (c .accepted .ensures, c .before .before .before .before .before .is-right .ensures, c .before .before .before .before .before .before .before .before .digit-at .ensures, c .before .before .before .before .before .before .before .before .before .before .before .cell-of .ensures .0), rw (c .before .before .before .before .before .is-right .ensures, c .before .before .before .before .before .before .before .before .digit-at .ensures, c .before .before .before .before .before .before .before .before .before .before .before .cell-of .ensures .0) at (c .before .before .before .write-check .ensures))
+
+pub store-spec : {M : Type 1} → statement M
+store-spec = tie.close (tie.spec cell-of-requires digit-at-requires is-right-requires write-check-requires add-next accepted-requires same-length returns)

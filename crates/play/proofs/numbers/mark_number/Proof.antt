@@ -1,0 +1,44 @@
+-- `play::numbers::mark_number` meets its contract.
+-- Assumes nothing.
+use Prim.Native.Nat.{ℕ}
+use mathlib.Core.Path.{sym, ap, _∙_}
+use mathlib.Core.Bool.{Bool, not}
+use Rattle.sudoku.proofs.Walks.{refused, no-if}
+use Rattle.note.specs.Note.{contains}
+use Rattle.journal.specs.State.{noteAt, acceptsMarks}
+use Rattle.board.specs.Board.{stateOf}
+use Rattle.board.proofs.Numbers.{last-if}
+use borrow.Author.Needs.{needs}
+use Rattle.play.proofs.numbers.mark_number.Statement.{statement}
+use Rattle.play.proofs.numbers.mark_number.Tie as tie
+
+holds-digit-requires : tie.Need-holds-digit-requires
+holds-digit-requires c κs = search needs
+
+returns : tie.Need-returns
+unfolding acceptsMarks noteAt stateOf
+returns c = sym (refused _ 7 _ (ap (λ (t : Bool). not (not t)) (sym (c .before .holds-digit .ensures) ∙ c .if1 .taken)))
+
+in-range-requires : tie.Need-in-range-requires
+in-range-requires c κs = search needs
+
+returns-2 : tie.Need-returns-2
+unfolding acceptsMarks noteAt stateOf
+returns-2 c = sym (no-if _ 7 _ (ap (λ (t : Bool). not (not t)) (sym (c .before .before .before .holds-digit .ensures) ∙ c .before .before .if1 .left)) ∙ refused _ 8 _ (ap not (sym (c .before .in-range .ensures)) ∙ c .if2 .taken))
+
+note-at-requires : tie.Need-note-at-requires
+note-at-requires c κs = search needs
+
+contains-requires : tie.Need-contains-requires
+contains-requires c κs = search needs
+
+returns-3 : tie.Need-returns-3
+unfolding acceptsMarks noteAt stateOf
+returns-3 c = sym (no-if _ 7 _ (ap (λ (t : Bool). not (not t)) (sym (c .before .before .before .before .before .before .before .before .holds-digit .ensures) ∙ c .before .before .before .before .before .before .before .if1 .left)) ∙ no-if _ 8 _ (ap not (sym (c .before .before .before .before .before .before .in-range .ensures)) ∙ c .before .before .before .before .before .if2 .left) ∙ refused _ 10 _ (sym (c .before .contains .ensures ∙ ap (λ (n : ℕ). contains n (c .before .before .before .before .before .before .before .before .before .before .before .args .digit)) (c .before .before .note-at .ensures)) ∙ c .if3 .taken))
+
+returns-4 : tie.Need-returns-4
+unfolding acceptsMarks noteAt stateOf
+returns-4 c = sym (no-if _ 7 _ (ap (λ (t : Bool). not (not t)) (sym (c .before .before .before .before .before .before .before .before .holds-digit .ensures) ∙ c .before .before .before .before .before .before .before .if1 .left)) ∙ no-if _ 8 _ (ap not (sym (c .before .before .before .before .before .before .in-range .ensures)) ∙ c .before .before .before .before .before .if2 .left) ∙ last-if _ 10 (sym (c .before .contains .ensures ∙ ap (λ (n : ℕ). contains n (c .before .before .before .before .before .before .before .before .before .before .before .args .digit)) (c .before .before .note-at .ensures)) ∙ c .if3 .left))
+
+pub mark-number-spec : {M : Type 1} → statement M
+mark-number-spec = tie.close (tie.spec holds-digit-requires returns in-range-requires returns-2 note-at-requires contains-requires returns-3 returns-4)

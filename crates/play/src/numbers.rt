@@ -1,0 +1,182 @@
+// Why a move is refused: the numbers 1 to 11 and 15, each found by its own test, in their order. 0 where nothing is refused.
+use board::Board;
+use board::cell::holds_players_digit;
+use board::value::is_board;
+use journal::JOURNAL_BYTES;
+use journal::MAX_MOVES;
+use journal::Move;
+use journal::notes::note_at;
+use journal::slots::is_given;
+use puzzle::digit_at;
+use puzzle::holds_digit;
+use sudoku::cell_of;
+use sudoku::in_range;
+use sudoku::on_grid;
+ghost use mathlib.Core.Path.{_≡_};
+ghost use mathlib.Core.Bool.{not};
+ghost use mathlib.Core.List.{[], _∷_, _++_};
+ghost use Prim.Native.Nat.{_≤_};
+ghost use lib.Dec.{eqb};
+ghost use Rattle.sudoku.specs.Tests.{_⇒_, first};
+ghost use Rattle.sudoku.specs.Grid.{inRange, onGrid};
+ghost use Rattle.note.specs.Note.{contains};
+ghost use Rattle.journal.specs.declared.Move.the-variants.{Place, Erase, WriteMark, StrikeMark};
+ghost use Rattle.journal.specs.Limits.{maxMoves};
+ghost use Rattle.journal.specs.State.{isGiven, digitAt, noteAt, holdsPlayersDigit, acceptsMarks};
+ghost use Rattle.board.specs.Board.{stateOf};
+ghost use Rattle.play.specs.Play.{lentNumber, lentBy, moveTests};
+
+// 3 and 4, which every move tests first.
+fn cell_number(solved: bool, row: u8, column: u8) -> u8
+    ensures { λ r. ⌜ r ≡ first ((not (onGrid row column) ⇒ 3) ∷ (solved ⇒ 4) ∷ []) ⌝ }
+{
+    if !on_grid(row, column) {
+        return 3;
+    }
+    if solved {
+        return 4;
+    }
+    0
+}
+
+// Of a digit to place at a cell: 5 8 9.
+fn digit_number(board: Board, cell: usize, digit: u8) -> u8
+    ensures { λ r. ⌜ r ≡ first ((isGiven (stateOf board) cell ⇒ 5) ∷ (not (inRange digit) ⇒ 8) ∷ (eqb (digitAt (stateOf board) cell) digit ⇒ 9) ∷ []) ⌝ }
+{
+    if is_given(&board.given, cell) {
+        return 5;
+    }
+    if !in_range(digit) {
+        return 8;
+    }
+    if digit_at(&board.digits, cell) == digit {
+        return 9;
+    }
+    0
+}
+
+// Of a mark to write at a cell: 7 8 10.
+fn mark_number(board: Board, cell: usize, digit: u8) -> u8
+    ensures { λ r. ⌜ r ≡ first ((not (acceptsMarks (stateOf board) cell) ⇒ 7) ∷ (not (inRange digit) ⇒ 8) ∷ (contains (noteAt (stateOf board) cell) digit ⇒ 10) ∷ []) ⌝ }
+{
+    if holds_digit(&board.digits, cell) {
+        return 7;
+    }
+    if !in_range(digit) {
+        return 8;
+    }
+    if note::contains(note_at(&board.notes, cell), digit) {
+        return 10;
+    }
+    0
+}
+
+// Of a mark to strike at a cell: 7 11.
+fn struck_number(board: Board, cell: usize, digit: u8) -> u8
+    ensures { λ r. ⌜ r ≡ first ((not (acceptsMarks (stateOf board) cell) ⇒ 7) ∷ (not (contains (noteAt (stateOf board) cell) digit) ⇒ 11) ∷ []) ⌝ }
+{
+    if holds_digit(&board.digits, cell) {
+        return 7;
+    }
+    if !note::contains(note_at(&board.notes, cell), digit) {
+        return 11;
+    }
+    0
+}
+
+// Of a digit to erase at a cell: 6.
+fn held_number(board: Board, cell: usize) -> u8
+    ensures { λ r. ⌜ r ≡ first ((not (holdsPlayersDigit (stateOf board) cell) ⇒ 6) ∷ []) ⌝ }
+{
+    if !holds_players_digit(&board.digits, &board.given, cell) {
+        return 6;
+    }
+    0
+}
+
+// 3 4 5 8 9.
+fn place_number(board: Board, row: u8, column: u8, digit: u8) -> u8
+    ensures { λ r. ⌜ r ≡ first (moveTests (stateOf board) (Place row column digit)) ⌝ }
+{
+    let n = cell_number(board.solved, row, column);
+    if n != 0 {
+        return n;
+    }
+    digit_number(board, cell_of(row, column), digit)
+}
+
+// 3 4 6.
+fn erase_number(board: Board, row: u8, column: u8) -> u8
+    ensures { λ r. ⌜ r ≡ first (moveTests (stateOf board) (Erase row column)) ⌝ }
+{
+    let n = cell_number(board.solved, row, column);
+    if n != 0 {
+        return n;
+    }
+    held_number(board, cell_of(row, column))
+}
+
+// 3 4 7 8 10.
+fn write_mark_number(board: Board, row: u8, column: u8, digit: u8) -> u8
+    ensures { λ r. ⌜ r ≡ first (moveTests (stateOf board) (WriteMark row column digit)) ⌝ }
+{
+    let n = cell_number(board.solved, row, column);
+    if n != 0 {
+        return n;
+    }
+    mark_number(board, cell_of(row, column), digit)
+}
+
+// 3 4 7 11.
+fn strike_mark_number(board: Board, row: u8, column: u8, digit: u8) -> u8
+    ensures { λ r. ⌜ r ≡ first (moveTests (stateOf board) (StrikeMark row column digit)) ⌝ }
+{
+    let n = cell_number(board.solved, row, column);
+    if n != 0 {
+        return n;
+    }
+    struck_number(board, cell_of(row, column), digit)
+}
+
+// 3 to 11: why a move is refused, 0 where it is not.
+pub fn move_number(board: Board, m: Move) -> u8
+    ensures { λ r. ⌜ r ≡ first (moveTests (stateOf board) m) ⌝ }
+{
+    match m {
+        Move::Place { row, column, digit } => place_number(board, row, column, digit),
+        Move::Erase { row, column } => erase_number(board, row, column),
+        Move::WriteMark { row, column, digit } => write_mark_number(board, row, column, digit),
+        Move::StrikeMark { row, column, digit } => strike_mark_number(board, row, column, digit),
+    }
+}
+
+// 1 and 2, which every call with a board and a lent journal tests first. That no other number comes spares callers a fact.
+pub fn lent_number(board: Board, length: usize) -> u8
+    ensures { λ r. ⌜ (r ≡ lentNumber board length) × (r ≤ 2) ⌝ }
+{
+    if length != JOURNAL_BYTES {
+        return 1;
+    }
+    if !is_board(board) {
+        return 2;
+    }
+    0
+}
+
+// 1, 2, 3 to 11, 15.
+pub fn call_number(board: Board, length: usize, m: Move) -> u8
+    ensures { λ r. ⌜ r ≡ first (lentBy board length (moveTests (stateOf board) m ++ ((eqb (board .standing) maxMoves ⇒ 15) ∷ []))) ⌝ }
+{
+    let lent = lent_number(board, length);
+    if lent != 0 {
+        return lent;
+    }
+    let n = move_number(board, m);
+    if n != 0 {
+        return n;
+    }
+    if board.standing == MAX_MOVES {
+        return 15;
+    }
+    0
+}
