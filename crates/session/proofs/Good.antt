@@ -230,7 +230,7 @@ module _ (k : Book) (g : Good k) where
   unfolding step
   good-step c =
       by-test (eqb (refusedBy k c) 0)
-      (λ t. subst Good (sym (pick-true (eqb (refusedBy k c) 0) (taken k c) k t)) (good-taken c (eqb-true (refusedBy k c) 0 t)))
+      (λ t. subst Good (sym (pick-true (eqb (refusedBy k c) 0) (taken k c) _ t)) (good-taken c (eqb-true (refusedBy k c) 0 t)))
       (λ t. subst Good (sym (pick-false (eqb (refusedBy k c) 0) (taken k c) k t)) g)
 
 -- ---- every book

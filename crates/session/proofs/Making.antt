@@ -29,7 +29,13 @@ use Rattle.session.proofs.Refusals.{first-none, first-last, refused-mak
 
 pub step-taken : (k : Book) (c : Call) → refusedBy k c ≡ 0 → step k c ≡ taken k c
 unfolding step
-step-taken k c p = pick-true (eqb (refusedBy k c) 0) (taken k c) k (eq-eqb (refusedBy k c) 0 p)
+step-taken k c p = pick-true (eqb (refusedBy k c) 0) (taken k c) _ (eq-eqb (refusedBy k c) 0 p)
+
+-- an accepted move drops those after standing
+made-drops : (k : Book) (m : Move) → refusedBy k (Make m) ≡ 0
+    → step k (Make m) ≡ withMoves k (take (k .standing) (k .moves) ++ (m ∷ [])) (k .standing + 1)
+unfolding taken
+made-drops k m p = step-taken k (Make m) p
 
 pub keep-append : (k : Book) (cs ds : List Call) → keep k (cs ++ ds) ≡ keep (keep k cs) ds
 unfolding keep
@@ -65,9 +71,9 @@ module _ (givens : List Given) (solution : List ℕ) where
   -- one move more where all stand
   one-more : (old : List Move) (cs : List Stored) (m : Move) → Passes (performAll (opening givens) old) m → length old < maxMoves
       → step (bookOf old (length old) cs) (Make m) ≡ bookOf (old ++ (m ∷ [])) (length (old ++ (m ∷ []))) cs
-  unfolding bookOf stateIn taken withMoves
+  unfolding bookOf stateIn withMoves
   one-more old cs m p h =
-      step-taken (bookOf old (length old) cs) (Make m)
+      made-drops (bookOf old (length old) cs) m
       (make-accepted (bookOf old (length old) cs) m (subst (λ (l : List Move). Passes (performAll (opening givens) l) m) (sym (take-length old)) p) h)
       ∙ (λ i. bookOf (take-length old i ++ (m ∷ [])) (sym (length-append old (m ∷ [])) i) cs)
 
@@ -86,9 +92,9 @@ module _ (givens : List Given) (solution : List ℕ) where
   -- the first move made where none stands drops all that there are
   makes : (m : Move) (ms old : List Move) (cs : List Stored) → Plays (opening givens) (m ∷ ms) → length (m ∷ ms) ≤ maxMoves
       → keep (bookOf old 0 cs) (map Make (m ∷ ms)) ≡ bookOf (m ∷ ms) (length (m ∷ ms)) cs
-  unfolding keep Plays performAll bookOf stateIn taken withMoves
+  unfolding keep Plays performAll bookOf stateIn withMoves
   makes m ms old cs p h =
-      ap (λ (k : Book). keep k (map Make ms)) (step-taken (bookOf old 0 cs) (Make m) (make-accepted (bookOf old 0 cs) m (p .0) (omega arith)))
+      ap (λ (k : Book). keep k (map Make ms)) (made-drops (bookOf old 0 cs) m (make-accepted (bookOf old 0 cs) m (p .0) (omega arith)))
       ∙ makes-more ms (m ∷ []) cs (p .1) (omega arith)
 
   pub makes-some : (ms old : List Move) (cs : List Stored) → Plays (opening givens) ms → length ms ≤ maxMoves → 1 ≤ length ms
