@@ -28,8 +28,8 @@ use Rattle.journal.specs.StoredChecks.{Stored, isRight, judge}
 use Rattle.record.specs.declared.Asked.{Asked}
 use Rattle.record.specs.Reopen.{judged}
 use Rattle.record.proofs.Readable.{InTime}
-use Rattle.session.specs.declared.Call.{Call}
-use Rattle.session.specs.declared.Call.the-variants.{Make, Undo, Check}
+use Rattle.calls.specs.declared.Call.{Call}
+use Rattle.calls.specs.declared.Call.the-variants.{Make, Undo, Check}
 use Rattle.session.specs.Book.{Book, newBook, performAll, step, keep}
 use Rattle.session.specs.Opens.{Opens}
 use Rattle.session.proofs.Opening.{opening-fit, opening-free, opening-note}

@@ -21,7 +21,7 @@ use Rattle.record.specs.Items as items
 use Rattle.record.specs.Scan as scan
 use Rattle.record.specs.Write as writing
 use Rattle.record.specs.Reopen as reopening
-use Rattle.session.specs.Session as session
+use Rattle.calls.specs.Session as session
 use Rattle.session.specs.Positions as positions
 
 unfoldable of-tests : ℕ

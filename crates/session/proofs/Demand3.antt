@@ -21,9 +21,9 @@ use Rattle.record.specs.Scan.{partsOfBytes}
 use Rattle.record.specs.Write.{Wrote, wrote}
 use Rattle.record.specs.Reopen.{judged, reopenOf}
 use Rattle.record.proofs.WriteBack.{bytes-record, are-bytes}
-use Rattle.session.specs.declared.Call.{Call}
-use Rattle.session.specs.declared.Call.the-variants.{Make, Undo, Redo, Check}
-use Rattle.session.specs.Session.{Session, after, started}
+use Rattle.calls.specs.declared.Call.{Call}
+use Rattle.calls.specs.declared.Call.the-variants.{Make, Undo, Redo, Check}
+use Rattle.calls.specs.Session.{Session, after, started}
 use Rattle.session.specs.Book.{Book, newBook, made, refusedBy, taken, withMoves, step, keep, asked, partsOfBook, recordIn}
 use Rattle.session.specs.Opens.{Opens}
 use Rattle.session.specs.Demand3.{reopenedBook, Kept, AreBytes, Writable, Demand3}

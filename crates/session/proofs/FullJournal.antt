@@ -24,9 +24,9 @@ use Rattle.board.specs.Board.{stateOf, boardOf, isBoard, moved}
 use Rattle.board.specs.declared.Answer.{Answer}
 use Rattle.board.specs.Open.{noChecks, noMoves, answer}
 use Rattle.play.specs.Play.{Played, played, playOf, recordMove, moveTests, lentTests, callTests, undoOf, undone, canTakeBack, slotRefusal}
-use Rattle.session.specs.declared.Call.{Call}
-use Rattle.session.specs.declared.Call.the-variants.{Undo}
-use Rattle.session.specs.Session.{Session, Said, called, callOf, answers, started}
+use Rattle.calls.specs.declared.Call.{Call}
+use Rattle.calls.specs.declared.Call.the-variants.{Undo}
+use Rattle.calls.specs.Session.{Session, Said, called, callOf, answers, started}
 use Rattle.session.specs.Positions.{solutionG, givensE, openG, numbers, writeMark, strikeMark, inTurn}
 use Rattle.journal.proofs.Memory.{length-over, bytes-length, slot-written}
 use Rattle.session.proofs.Computing.{computing}

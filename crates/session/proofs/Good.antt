@@ -23,8 +23,8 @@ use Rattle.journal.specs.Limits.{maxMoves, maxChecks}
 use Rattle.journal.specs.State.{State, opening, isGiven, digitAt, holdsPlayersDigit}
 use Rattle.journal.specs.StoredChecks.{Stored, isRight, judge}
 use Rattle.play.specs.Play.{moveTests}
-use Rattle.session.specs.declared.Call.{Call}
-use Rattle.session.specs.declared.Call.the-variants.{Make, Undo, Redo, Check}
+use Rattle.calls.specs.declared.Call.{Call}
+use Rattle.calls.specs.declared.Call.the-variants.{Make, Undo, Redo, Check}
 use Rattle.session.specs.Book.{Book, newBook, made, performAll, stateIn, refusedBy, taken, withMoves, checkIn, step, keep}
 use Rattle.session.specs.Opens.{Opens}
 use Rattle.session.proofs.Opening.{opening-free}

@@ -23,7 +23,7 @@ use Rattle.journal.specs.StoredChecks.{Stored, storedBytes, storedAll}
 use Rattle.journal.proofs.Moves.{Fit}
 use Rattle.journal.proofs.Memory.{length-over, take-over-end}
 use Rattle.board.specs.Board.{boardOf, isBoard, digitValue, noteValue, solutionValue}
-use Rattle.session.specs.declared.Call.the-variants.{Make, Check}
+use Rattle.calls.specs.declared.Call.the-variants.{Make, Check}
 use Rattle.session.specs.Book.{Book, made, performAll, stateIn, slotsFrom, slotsIn, taken, withMoves, checkIn}
 use Rattle.session.specs.Demand3.{boardIn}
 use Rattle.session.proofs.Plays.{moveNo, slots-append, slots-length, slots-in-two}

@@ -9,8 +9,8 @@ use Rattle.journal.specs.Limits.{journalBytes, checkMemory}
 use Rattle.journal.specs.StoredChecks.{storedAll}
 use Rattle.board.specs.Board.{fresh}
 use Rattle.board.specs.Open.{openedFresh, noMoves, noChecks}
-use Rattle.session.specs.declared.Call.{Call}
-use Rattle.session.specs.Session.{Session, Said, after, answers, started}
+use Rattle.calls.specs.declared.Call.{Call}
+use Rattle.calls.specs.Session.{Session, Said, after, answers, started}
 use Rattle.session.specs.Book.{Book, newBook, made, performAll, stateIn, step, says, keep, saysAll, slotsFrom, slotsIn}
 use Rattle.session.specs.Opens.{Opens}
 use Rattle.session.specs.Demand3.{boardIn}

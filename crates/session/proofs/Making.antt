@@ -19,8 +19,8 @@ use Rattle.journal.specs.Limits.{maxMoves, maxChecks}
 use Rattle.journal.specs.State.{State, opening, digitAt, holdsPlayersDigit}
 use Rattle.journal.specs.StoredChecks.{Stored, judge}
 use Rattle.play.specs.Play.{moveTests}
-use Rattle.session.specs.declared.Call.{Call}
-use Rattle.session.specs.declared.Call.the-variants.{Make, Undo, Check}
+use Rattle.calls.specs.declared.Call.{Call}
+use Rattle.calls.specs.declared.Call.the-variants.{Make, Undo, Check}
 use Rattle.session.specs.Book.{Book, performAll, stateIn, refusedBy, taken, withMoves, checkIn, step, keep}
 use Rattle.session.proofs.Plays.{Passes, Plays, perform-append}
 use Rattle.session.proofs.Refusals.{first-none, first-last, refused-make, refused-undo, refused-check}

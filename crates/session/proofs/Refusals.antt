@@ -18,7 +18,7 @@ use Rattle.journal.specs.Limits.{maxMoves, maxChecks}
 use Rattle.journal.specs.State.{State, isGiven, digitAt, noteAt, holdsPlayersDigit, acceptsMarks, rowIn, columnIn}
 use Rattle.journal.proofs.Moves.{Allowed}
 use Rattle.play.specs.Play.{moveTests}
-use Rattle.session.specs.declared.Call.the-variants.{Make, Undo, Redo, Check}
+use Rattle.calls.specs.declared.Call.the-variants.{Make, Undo, Redo, Check}
 use Rattle.session.specs.Book.{Book, made, stateIn, refusedBy, noSuchCell, givenCell, noPlayersDigit, marksNotAccepted, digitOutOfRange, digitAlreadyStands, markAlreadyWritten, markNotThere, nothingToUndo, nothingToRedo, journalFull, checksFull}
 use Rattle.session.proofs.Plays.{Passes}
 

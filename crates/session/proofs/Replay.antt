@@ -29,7 +29,7 @@ use Rattle.board.specs.Board.{stateOf, countsOf, boardOf, moved, fresh}
 use Rattle.board.specs.Open.{noMoves}
 use Rattle.play.specs.Play.{Played, played, moveTests, recordMove}
 use Rattle.record.specs.Reopen.{replay, takeBackAll}
-use Rattle.session.specs.declared.Call.the-variants.{Undo}
+use Rattle.calls.specs.declared.Call.the-variants.{Undo}
 use Rattle.session.specs.Book.{Book, performAll, stateIn, refusedBy, taken, withMoves, slotsFrom}
 use Rattle.session.specs.Demand3.{boardIn}
 use Rattle.session.proofs.Plays.{Passes, Plays, plays-next}

@@ -6,7 +6,7 @@ use mathlib.Core.Logic.{_↔_}
 use lib.ListN.{take}
 use Rattle.journal.proofs.Moves.{Fit}
 use Rattle.board.specs.Board.{boardOf}
-use Rattle.session.specs.Session.{Session}
+use Rattle.calls.specs.Session.{Session}
 use Rattle.session.specs.Book.{Book, newBook, stateIn, keep}
 use Rattle.session.specs.Demand3.{boardIn}
 use Rattle.session.specs.Solved.{EachOnce, SolvedTheorem}

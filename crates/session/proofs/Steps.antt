@@ -27,9 +27,9 @@ use Rattle.board.specs.Board.{stateOf, countsOf, boardOf, moved, isBoard}
 use Rattle.board.specs.Open.{answer}
 use Rattle.play.specs.Play.{Played, played, lentTests, callTests, recordMove, playOf, slotRefusal, canTakeBack, undoTests, undone, undoOf, canRetake, redoTests, redone, redoOf}
 use Rattle.play.specs.Check.{CheckPlayed, checkTests, checkOn, checked, withCheck, checkOf}
-use Rattle.session.specs.declared.Call.{Call}
-use Rattle.session.specs.declared.Call.the-variants.{Make, Undo, Redo, Check}
-use Rattle.session.specs.Session.{Session, Called, called, callOf}
+use Rattle.calls.specs.declared.Call.{Call}
+use Rattle.calls.specs.declared.Call.the-variants.{Make, Undo, Redo, Check}
+use Rattle.calls.specs.Session.{Session, Called, called, callOf}
 use Rattle.session.specs.Book.{Book, made, performAll, stateIn, refusedBy, taken, withMoves, checkIn, slotsIn, verdict, step, says}
 use Rattle.session.specs.Demand3.{boardIn}
 use Rattle.session.proofs.Plays.{Passes, moveNo, plays-take, plays-next, perform-append, perform-next}

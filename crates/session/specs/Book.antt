@@ -19,9 +19,9 @@ use Rattle.journal.specs.Slots.{slotFor, bytesOf}
 use Rattle.journal.specs.StoredChecks.{Stored, judge}
 use Rattle.record.specs.declared.Asked.{Asked}
 use Rattle.record.specs.Items.{Parts, recordOf}
-use Rattle.session.specs.declared.Call.{Call}
-use Rattle.session.specs.declared.Call.the-variants.{Make, Undo, Redo, Check}
-use Rattle.session.specs.Session.{Said}
+use Rattle.calls.specs.declared.Call.{Call}
+use Rattle.calls.specs.declared.Call.the-variants.{Make, Undo, Redo, Check}
+use Rattle.calls.specs.Session.{Said}
 
 -- givens, solution, moves, how many of them stand, checks. made counts its moves
 pub record Book : Type 0 where

@@ -21,8 +21,8 @@ use Rattle.board.specs.Board.{boardOf}
 use Rattle.board.specs.Open.{Opened, answer, openOf, openedFresh, noMoves, noChecks}
 use Rattle.record.specs.Write.{Wrote, writeOf, wrote}
 use Rattle.record.specs.Reopen.{reopenOf}
-use Rattle.session.specs.declared.Call.{Call}
-use Rattle.session.specs.Session.{Session, after, answers, started}
+use Rattle.calls.specs.declared.Call.{Call}
+use Rattle.calls.specs.Session.{Session, after, answers, started}
 use Rattle.session.specs.Book.{Book, newBook, made, stateIn, keep, saysAll, slotsIn, recordIn}
 use Rattle.session.specs.Opens.{Opens}
 

@@ -1,4 +1,3 @@
-pub mod Session
 pub mod Book
 pub mod Opens
 pub mod Demand3

@@ -19,9 +19,9 @@ use Rattle.journal.specs.StoredChecks.{verdictByte}
 use Rattle.board.specs.Open.{Opened, openOf, openedFresh, noMoves, noChecks}
 use Rattle.record.specs.Write.{Wrote, wrote, writeOf}
 use Rattle.record.specs.Reopen.{reopenOf}
-use Rattle.session.specs.declared.Call.{Call}
-use Rattle.session.specs.declared.Call.the-variants.{Make, Undo, Check}
-use Rattle.session.specs.Session.{Session, Said, after, answers, started}
+use Rattle.calls.specs.declared.Call.{Call}
+use Rattle.calls.specs.declared.Call.the-variants.{Make, Undo, Check}
+use Rattle.calls.specs.Session.{Session, Said, after, answers, started}
 
 -- solution G: cell (r, c) is (3(r−1) + (r−1)/3 rounded down + c−1) mod 9, plus 1
 unfoldable pub digitG : ℕ → ℕ → ℕ

@@ -10,8 +10,8 @@ use Rattle.sudoku.specs.Tests.{both, count}
 use Rattle.sudoku.specs.Grid.{inRange, rowOf, columnOf, boxIndex, at}
 use Rattle.puzzle.specs.declared.Given.{Given}
 use Rattle.board.specs.Open.{openedFresh}
-use Rattle.session.specs.declared.Call.{Call}
-use Rattle.session.specs.Session.{after, started}
+use Rattle.calls.specs.declared.Call.{Call}
+use Rattle.calls.specs.Session.{after, started}
 use Rattle.session.specs.Opens.{Opens}
 
 -- of the cells of a unit, how many hold d

@@ -1,10 +1,1 @@
-// Sessions: lists of play calls over one board and its lent memory.
-use journal::Move;
-
-// A play call.
-pub enum Call {
-    Make(Move),
-    Undo,
-    Redo,
-    Check { row: u8, column: u8 },
-}
+// Sessions: the book of demand 3 and the theorems about lists of play calls. There is no code of its own here; the calls are run by crate calls.

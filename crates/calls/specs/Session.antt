@@ -10,8 +10,8 @@ use Rattle.board.specs.declared.Board.{Board}
 use Rattle.board.specs.Open.{Opened}
 use Rattle.play.specs.Play.{playOf, undoOf, redoOf}
 use Rattle.play.specs.Check.{checkOf}
-use Rattle.session.specs.declared.Call.{Call}
-use Rattle.session.specs.declared.Call.the-variants.{Make, Undo, Redo, Check}
+use Rattle.calls.specs.declared.Call.{Call}
+use Rattle.calls.specs.declared.Call.the-variants.{Make, Undo, Redo, Check}
 
 -- a board with its lent memory
 pub record Session : Type 0 where
