@@ -6,3 +6,6 @@ pub mod Readable
 pub mod Held
 pub mod KindBytes
 pub mod Scanning
+pub mod ReadRecord
+pub mod Laying
+pub mod Writing

@@ -32,7 +32,7 @@ use Rattle.record.specs.declared.Step.the-variants.{Next, Stopped}
 use Rattle.record.specs.Items.{Parts, encode}
 use Rattle.record.specs.Scan.{Taken, got, broken, Items, ended, cut, then, takeItem, byKind, body2, body3, body5, goOn, itemsIn, itemsOfBytes, reached, mayStand, scan, malformed, add, noParts, partsIn, partsOfBytes}
 use Rattle.record.specs.Reopen.{anyLate}
-use Rattle.record.specs.Counting.{taken, readOf, progress, Room, givenStep, moveStep, undoneStep, checkStep, itemStep, readStep, stepOf, scanned, malformedAt, scannedOf}
+use Rattle.record.specs.Counting.{taken, readOf, progress, Room, givenStep, moveStep, undoneStep, checkStep, itemStep, readStep, stepOf, scanned, refusedBy, malformedAt, scannedOf}
 use Rattle.record.proofs.ReadBack.{encode-some}
 use Rattle.record.proofs.KindBytes.{kinds, other-kind}
 
@@ -239,7 +239,7 @@ goes-on bytes s r next e w g = subst (Onward s) (sym e ∙ w) (onward-taken s (t
 
 -- 17, or the counts
 abbrev total : Refusal → ℕ → ℕ → ℕ → ℕ → Bool → Scanned
-total r givens moves undone checks late = pick (isAccepted r) (scanned accepted givens moves undone checks late) (scanned r 0 0 0 0 false)
+total r givens moves undone checks late = pick (isAccepted r) (scanned accepted givens moves undone checks late) (refusedBy r)
 
 -- the counts so far, and those of the items that are left
 abbrev totals : Refusal → Progress → Parts → Scanned

@@ -3,13 +3,13 @@
 use Prim.Native.Nat.{ℕ, _+_, _-_, _^_, _<_}
 use mathlib.Core.Bool.{Bool, false, not}
 use mathlib.Core.List.{List, [], _∷_}
-use lib.Dec.{leb, eqb}
+use lib.Dec.{leb, ltb, eqb}
 use lib.ListN.{length, drop, getD}
-use Rattle.sudoku.specs.Tests.{pick, either}
+use Rattle.sudoku.specs.Tests.{pick, both, either}
 use Rattle.puzzle.specs.declared.Refusal.{Refusal}
-use Rattle.puzzle.specs.Refusals.{refusal, accepted, isAccepted}
+use Rattle.puzzle.specs.Refusals.{refusal, accepted, isAccepted, refusedIf, orElse}
 use Rattle.journal.specs.declared.Move.{Move}
-use Rattle.journal.specs.Limits.{maxMoves}
+use Rattle.journal.specs.Limits.{maxMoves, maxChecks}
 use Rattle.journal.specs.Bytes.{two}
 use Rattle.journal.specs.Slots.{moveOf}
 use Rattle.record.specs.declared.Asked.{Asked}
@@ -26,7 +26,7 @@ use Rattle.record.specs.declared.Step.{Step}
 use Rattle.record.specs.declared.Step.the-variants.{Next, Stopped}
 use Rattle.record.specs.Items.{encode}
 use Rattle.record.specs.Scan.{Taken, got, broken, takeItem, byKind, malformed, partsOfBytes}
-use Rattle.record.specs.Reopen.{anyLate}
+use Rattle.record.specs.Reopen.{anyLate, unreadable}
 
 -- ---- one item
 
@@ -150,9 +150,13 @@ abbrev pub scanned : Refusal → ℕ → ℕ → ℕ → ℕ → Bool → Scanne
 scanned r givens moves undone checks late =
     record { refusal = r; givens = givens; moves = moves; undone = undone; checks = checks; late = late }
 
+-- a refusal, and no counts
+unfoldable pub refusedBy : Refusal → Scanned
+refusedBy r = scanned r 0 0 0 0 false
+
 -- 17 at an item
 unfoldable pub malformedAt : ℕ → Scanned
-malformedAt item = scanned (refusal 17 item 0) 0 0 0 0 false
+malformedAt item = refusedBy (refusal 17 item 0)
 
 -- 17 with its place, or what the record counts, and whether a check's standing is above the limit
 unfoldable pub scannedOf : List ℕ → Scanned
@@ -160,4 +164,19 @@ scannedOf bytes =
     let p = partsOfBytes bytes in
     pick (isAccepted (malformed bytes))
     (scanned accepted (length (p .givens)) (length (p .moves)) (p .undone) (length (p .checks)) (anyLate (p .checks)))
-    (scanned (malformed bytes) 0 0 0 0 false)
+    (refusedBy (malformed bytes))
+
+-- 18, 20 and 21 of what a scan answers
+unfoldable pub isOversized : Scanned → Bool
+isOversized s = either (not (leb (s .moves) maxMoves)) (either (not (leb (s .checks) maxChecks)) (s .late))
+
+unfoldable pub miscountedBy : Scanned → Refusal
+miscountedBy s =
+    orElse (refusedIf (ltb (s .moves) (s .undone)) (refusal 20 0 0))
+    (refusedIf (both (eqb (s .moves) 0) (not (eqb (s .checks) 0))) (refusal 21 0 0))
+
+-- 17 to 27, or what the record counts
+unfoldable pub readRecord : List ℕ → List ℕ → Scanned
+readRecord bytes solution =
+    let r = unreadable bytes solution in
+    pick (isAccepted r) (scannedOf bytes) (refusedBy r)

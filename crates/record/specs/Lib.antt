@@ -3,3 +3,4 @@ pub mod Write
 pub mod Scan
 pub mod Reopen
 pub mod Counting
+pub mod Laying

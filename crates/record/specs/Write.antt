@@ -60,7 +60,14 @@ partsOf b journal checks =
 unfoldable pub unsoundCheck : State → List ℕ → ℕ → Refusal
 unsoundCheck s checks n = refusedIf (not (isSoundCheck s checks n)) (refusal 14 n 1)
 
--- 1; 2; 14 for slots 1 to made, then for the stored checks; 34 Output shorter than the record
+-- 1; 2; 14 for slots 1 to made, then for the stored checks
+unfoldable pub unwritable : Board → List ℕ → List ℕ → Refusal
+unwritable b journal checks =
+    orElse (refusedIf (not (both (eqb (length journal) journalBytes) (eqb (length checks) checkMemory))) (refusal 1 0 0))
+    (orElse (refusedIf (not (isBoard b)) (refusal 2 0 0))
+    (orElse (firstRefused (unsoundSlot (stateOf b) journal) (b .made) 1) (firstRefused (unsoundCheck (stateOf b) checks) (b .checks) 1)))
+
+-- the same, and 34 Output shorter than the record
 unfoldable pub writeRefusal : Board → List ℕ → List ℕ → List ℕ → Refusal
 writeRefusal b journal checks output =
     orElse (refusedIf (not (both (eqb (length journal) journalBytes) (eqb (length checks) checkMemory))) (refusal 1 0 0))

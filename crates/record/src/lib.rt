@@ -4,6 +4,7 @@ use puzzle::Refusal;
 
 pub mod items;
 pub mod scan;
+pub mod write;
 
 // An item of the record.
 pub enum Item {

@@ -5,15 +5,21 @@ use crate::Read;
 use crate::Scanned;
 use crate::Step;
 use crate::items::read_item;
+use journal::MAX_CHECKS;
 use journal::MAX_MOVES;
+use puzzle::Layout;
+use puzzle::Refusal;
 use puzzle::answer::accepted;
 use puzzle::answer::refusal;
+use puzzle::given_bytes::is_ascending;
+use puzzle::proof::vouch;
 ghost use mathlib.Core.Path.{_≡_};
 ghost use mathlib.Core.Bool.{not};
 ghost use lib.Dec.{leb};
 ghost use Rattle.sudoku.specs.Tests.{either};
 ghost use Rattle.journal.specs.Limits.{maxMoves};
-ghost use Rattle.record.specs.Counting.{Room, givenStep, moveStep, undoneStep, checkStep, itemStep, stepOf, malformedAt, scannedOf};
+ghost use Rattle.record.specs.Reopen.{unreadable as unreadableOf};
+ghost use Rattle.record.specs.Counting.{Room, givenStep, moveStep, undoneStep, checkStep, itemStep, stepOf, refusedBy, malformedAt, scannedOf, isOversized, miscountedBy, readRecord};
 
 // A given: it stands among the givens.
 fn given_step(state: Progress, next: usize) -> Step
@@ -122,18 +128,25 @@ fn scan_step(bytes: &[u8], state: Progress) -> Step
     item_step(state, item, next)
 }
 
-// 17 at an item.
-fn malformed(item: usize) -> Scanned
-    ensures { λ r. ⌜ r ≡ malformedAt item ⌝ }
+// A refusal, and no counts.
+fn refused(r: Refusal) -> Scanned
+    ensures { λ a. ⌜ a ≡ refusedBy r ⌝ }
 {
     Scanned {
-        refusal: refusal(17, item, 0),
+        refusal: r,
         givens: 0,
         moves: 0,
         undone: 0,
         checks: 0,
         late: false,
     }
+}
+
+// 17 at an item.
+fn malformed(item: usize) -> Scanned
+    ensures { λ r. ⌜ r ≡ malformedAt item ⌝ }
+{
+    refused(refusal(17, item, 0))
 }
 
 // Reads a whole record: 17 with its place, or what it counts.
@@ -168,4 +181,67 @@ pub fn scan(bytes: &[u8]) -> Scanned
         checks: state.checks,
         late: state.late,
     }
+}
+
+// Whether 18 speaks of the counts: more moves or checks than are held, or a check's standing above the limit.
+fn is_oversized(s: Scanned) -> bool
+    ensures { λ r. ⌜ r ≡ isOversized s ⌝ }
+{
+    if s.moves > MAX_MOVES {
+        return true;
+    }
+    if s.checks > MAX_CHECKS {
+        return true;
+    }
+    s.late
+}
+
+// 20 and 21.
+fn miscounted(s: Scanned) -> Refusal
+    ensures { λ r. ⌜ r ≡ miscountedBy s ⌝ }
+{
+    if s.undone > s.moves {
+        return refusal(20, 0, 0);
+    }
+    if s.moves != 0 {
+        return accepted();
+    }
+    if s.checks != 0 {
+        return refusal(21, 0, 0);
+    }
+    accepted()
+}
+
+// 17 to 27, by what a scan of the bytes answered. 19 speaks of all givens of the record, however many they are.
+fn unreadable(bytes: &[u8], s: Scanned, solution: &[u8]) -> Refusal
+    requires { ⌜ s ≡ scannedOf (now bytes) ⌝ }
+    ensures { λ r. ⌜ r ≡ unreadableOf (now (bytes .entry)) (now (solution .entry)) ⌝ }
+{
+    let order = s.refusal;
+    if order.number != 0 {
+        return order;
+    }
+    if is_oversized(s) {
+        return refusal(18, 0, 0);
+    }
+    if !is_ascending(bytes, Layout::Items, s.givens) {
+        return refusal(19, 0, 0);
+    }
+    let counts = miscounted(s);
+    if counts.number != 0 {
+        return counts;
+    }
+    vouch(bytes, Layout::Items, s.givens, solution)
+}
+
+// Reads a record and its solution before any move is performed: 17 to 27, or what the record counts.
+pub fn read_record(bytes: &[u8], solution: &[u8]) -> Scanned
+    ensures { λ r. ⌜ r ≡ readRecord (now (bytes .entry)) (now (solution .entry)) ⌝ }
+{
+    let s = scan(bytes);
+    let r = unreadable(bytes, s, solution);
+    if r.number != 0 {
+        return refused(r);
+    }
+    s
 }

@@ -1,0 +1,60 @@
+-- `record::write::lay_four` meets its contract: four stores, one behind the other.
+-- Assumes nothing.
+use mathlib.Core.Path.{refl, _∙_}
+use mathlib.Core.List.{[], _∷_}
+use native.Mathlib.Omega.{arith}
+use lib.ListN.{length-set}
+use Rattle.journal.proofs.Stores.{laid-over, stored}
+use Rattle.record.proofs.write.lay_four.Statement.{statement}
+use Rattle.record.proofs.write.lay_four.Tie as tie
+use borrow.Author.Needs.{needs}
+
+slice-write-output : tie.Need-slice-write-output
+slice-write-output c = search needs
+
+add-output : tie.Need-add-output
+add-output c = search needs
+
+slice-write-output-2 : tie.Need-slice-write-output-2
+slice-write-output-2 c =
+    simp length-set (omega arith)
+
+add-output-2 : tie.Need-add-output-2
+add-output-2 c = search needs
+
+slice-write-output-3 : tie.Need-slice-write-output-3
+slice-write-output-3 c =
+    simp length-set (omega arith)
+
+add-output-3 : tie.Need-add-output-3
+add-output-3 c = search needs
+
+slice-write-output-4 : tie.Need-slice-write-output-4
+slice-write-output-4 c =
+    simp length-set (omega arith)
+
+add-result : tie.Need-add-result
+add-result c = search needs
+
+same-length : tie.Need-same-length
+same-length c =
+    simp length-set
+
+returns : tie.Need-returns
+returns c =
+    (refl, stored (c .args .output .now) (c .args .at) (c .args .a) (c .args .b ∷ c .args .c ∷ c .args .d ∷ []) (omega arith) ∙ laid-over (c .args .output .now) (c .args .at) (c .args .a ∷ c .args .b ∷ c .args .c ∷ c .args .d ∷ []) (omega arith))
+
+pub lay-four-spec : {M : Type 1} → statement M
+lay-four-spec =
+    tie.close
+    (tie.spec
+    slice-write-output
+    add-output
+    slice-write-output-2
+    add-output-2
+    slice-write-output-3
+    add-output-3
+    slice-write-output-4
+    add-result
+    same-length
+    returns)

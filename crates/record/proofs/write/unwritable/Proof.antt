@@ -1,0 +1,67 @@
+-- `record::write::unwritable` meets its contract: 1 in two tests, 2, then 14 of the slots and of the stored checks.
+-- Assumes nothing.
+use mathlib.Core.Path.{sym, ap, _∙_}
+use native.Mathlib.Omega.{arith}
+use borrow.Author.Tests.{eq-eqb, ne-eqb, not-true, not-false}
+use Rattle.sudoku.proofs.Walks.{both-true, both-false-left, both-false-right}
+use Rattle.puzzle.specs.declared.Refusal.{Refusal}
+use Rattle.record.proofs.Writing.{board-counts, refused-1, refused-2, refused-14, past-14}
+use Rattle.record.proofs.write.unwritable.Statement.{statement}
+use Rattle.record.proofs.write.unwritable.Tie as tie
+use borrow.Author.Needs.{needs}
+
+refusal-requires : tie.Need-refusal-requires
+refusal-requires c κs = search needs
+
+returns : tie.Need-returns
+returns c =
+    (c .refusal .ensures ∙ refused-1 (c .before .before .before .before .args .t1) (c .before .before .before .before .args .journal .now) (c .before .before .before .before .args .checks .now) (both-false-left _ _ (ne-eqb _ 8192 (c .before .if1 .taken))), λ z. absurd (omega (arith, ap (λ (x : Refusal). x .number) (c .refusal .ensures), z)))
+
+refusal-requires-2 : tie.Need-refusal-requires-2
+refusal-requires-2 c κs = search needs
+
+returns-2 : tie.Need-returns-2
+returns-2 c =
+    (c .refusal2 .ensures ∙ refused-1 (c .before .before .before .before .before .args .t1) (c .before .before .before .before .before .args .journal .now) (c .before .before .before .before .before .args .checks .now) (both-false-right _ _ (ne-eqb _ 1536 (c .before .if2 .taken))), λ z. absurd (omega (arith, ap (λ (x : Refusal). x .number) (c .refusal2 .ensures), z)))
+
+is-board-requires : tie.Need-is-board-requires
+is-board-requires c κs = search needs
+
+refusal-requires-3 : tie.Need-refusal-requires-3
+refusal-requires-3 c κs = search needs
+
+returns-3 : tie.Need-returns-3
+returns-3 c =
+    (c .refusal3 .ensures ∙ refused-2 (c .before .before .before .before .before .before .before .args .t1) (c .before .before .before .before .before .before .before .args .journal .now) (c .before .before .before .before .before .before .before .args .checks .now) (both-true _ _ (eq-eqb _ 8192 (c .before .before .before .before .if1 .left)) (eq-eqb _ 1536 (c .before .before .before .if2 .left))) (sym (c .before .before .is-board .ensures) ∙ not-true _ (c .before .if3 .taken)), λ z. absurd (omega (arith, ap (λ (x : Refusal). x .number) (c .refusal3 .ensures), z)))
+
+unsound-slots-requires : tie.Need-unsound-slots-requires
+unsound-slots-requires c κs =
+    board-counts (c .before .before .before .before .before .before .before .before .args .t1) (sym (c .before .before .before .is-board .ensures) ∙ not-false _ (c .before .before .if3 .left)) .0
+
+returns-4 : tie.Need-returns-4
+returns-4 c =
+    (refused-14 (c .before .before .before .before .before .before .before .before .before .before .before .args .t1) (c .before .before .before .before .before .before .before .before .before .before .before .args .journal .now) (c .before .before .before .before .before .before .before .before .before .before .before .args .checks .now) (both-true _ _ (eq-eqb _ 8192 (c .before .before .before .before .before .before .before .before .if1 .left)) (eq-eqb _ 1536 (c .before .before .before .before .before .before .before .if2 .left))) (sym (c .before .before .before .before .before .before .is-board .ensures) ∙ not-false _ (c .before .before .before .before .before .if3 .left)) (c .before .before .unsound-slots .result) (c .before .before .unsound-slots .ensures) (c .if4 .taken), λ z. absurd (c .if4 .taken z))
+
+unsound-checks-requires : tie.Need-unsound-checks-requires
+unsound-checks-requires c κs =
+    board-counts (c .before .before .before .before .before .before .before .before .before .before .before .before .before .args .t1) (sym (c .before .before .before .before .before .before .before .before .is-board .ensures) ∙ not-false _ (c .before .before .before .before .before .before .before .if3 .left)) .2
+
+returns-5 : tie.Need-returns-5
+returns-5 c =
+    (c .unsound-checks .ensures ∙ past-14 (c .before .before .before .before .before .before .before .before .before .before .before .before .before .before .args .t1) (c .before .before .before .before .before .before .before .before .before .before .before .before .before .before .args .journal .now) (c .before .before .before .before .before .before .before .before .before .before .before .before .before .before .args .checks .now) (both-true _ _ (eq-eqb _ 8192 (c .before .before .before .before .before .before .before .before .before .before .before .if1 .left)) (eq-eqb _ 1536 (c .before .before .before .before .before .before .before .before .before .before .if2 .left))) (sym (c .before .before .before .before .before .before .before .before .before .is-board .ensures) ∙ not-false _ (c .before .before .before .before .before .before .before .before .if3 .left)) (c .before .before .before .before .before .unsound-slots .result) (c .before .before .before .before .before .unsound-slots .ensures) (c .before .before .before .if4 .left), λ z. board-counts (c .before .before .before .before .before .before .before .before .before .before .before .before .before .before .args .t1) (sym (c .before .before .before .before .before .before .before .before .before .is-board .ensures) ∙ not-false _ (c .before .before .before .before .before .before .before .before .if3 .left)))
+
+pub unwritable-spec : {M : Type 1} → statement M
+unwritable-spec =
+    tie.close
+    (tie.spec
+    refusal-requires
+    returns
+    refusal-requires-2
+    returns-2
+    is-board-requires
+    refusal-requires-3
+    returns-3
+    unsound-slots-requires
+    returns-4
+    unsound-checks-requires
+    returns-5)

@@ -1,0 +1,61 @@
+-- `record::write::write` meets its contract: 1, 2 and 14, then 34, then the record.
+-- Assumes nothing.
+use mathlib.Core.Path.{ap, _∙_}
+use native.Mathlib.Omega.{arith}
+use Rattle.puzzle.specs.declared.Refusal.{Refusal}
+use Rattle.record.specs.Write.{Wrote, wrote}
+use Rattle.record.proofs.Writing.{not-written, too-short, written}
+use Rattle.record.proofs.write.write.Statement.{statement}
+use Rattle.record.proofs.write.write.Tie as tie
+use borrow.Author.Needs.{needs}
+
+unwritable-requires : tie.Need-unwritable-requires
+unwritable-requires c κs = search needs
+
+returns : tie.Need-returns
+returns c =
+    let w = not-written (c .before .before .before .before .before .before .args .board) (c .before .before .before .before .before .before .args .journal .now) (c .before .before .before .before .before .before .args .checks .now) (c .before .before .before .before .before .before .args .output .now) (c .before .before .unwritable .result) (c .before .before .unwritable .ensures .0) (c .if1 .taken) in
+    (ap (λ (x : Wrote). x .answer) w, ap (λ (x : Wrote). x .output) w)
+
+record-length-requires : tie.Need-record-length-requires
+record-length-requires c κs =
+    let n = c .before .before .unwritable .ensures .1 (c .if1 .left) in
+    (n .0, n .2)
+
+refusal-requires : tie.Need-refusal-requires
+refusal-requires c κs = search needs
+
+returns-2 : tie.Need-returns-2
+returns-2 c =
+    let w = too-short (c .before .before .before .before .before .before .before .before .before .args .board) (c .before .before .before .before .before .before .before .before .before .args .journal .now) (c .before .before .before .before .before .before .before .before .before .args .checks .now) (c .before .before .before .before .before .before .before .before .before .args .output .now) (c .before .before .before .before .before .unwritable .result) (c .before .before .before .before .before .unwritable .ensures .0) (c .before .before .before .if1 .left) (c .before .before .record-length .result) (c .before .before .record-length .ensures) (c .before .if2 .taken) in
+    (ap (λ (x : Refusal). wrote x 0 (c .before .before .before .before .before .before .before .before .before .args .output .now) .answer) (c .refusal .ensures) ∙ ap (λ (x : Wrote). x .answer) w, ap (λ (x : Wrote). x .output) w)
+
+lay-record-requires : tie.Need-lay-record-requires
+lay-record-requires c κs =
+    let n = c .before .before .before .before .before .unwritable .ensures .1 (c .before .before .before .if1 .left) in
+    (n .0, n .1, n .2, omega (arith, c .before .before .record-length .ensures, c .before .if2 .left))
+
+accepted-requires : tie.Need-accepted-requires
+accepted-requires c κs = search needs
+
+same-length : tie.Need-same-length
+same-length c = search needs
+
+returns-3 : tie.Need-returns-3
+returns-3 c =
+    let w = written (c .before .before .before .before .before .before .before .before .before .before .before .before .before .args .board) (c .before .before .before .before .before .before .before .before .before .before .before .before .before .args .journal .now) (c .before .before .before .before .before .before .before .before .before .before .before .before .before .args .checks .now) (c .before .before .before .before .before .before .before .before .before .before .before .before .before .args .output .now) (c .before .before .before .before .before .before .before .before .before .unwritable .result) (c .before .before .before .before .before .before .before .before .before .unwritable .ensures .0) (c .before .before .before .before .before .before .before .if1 .left) (c .before .before .before .before .before .before .record-length .result) (c .before .before .before .before .before .before .record-length .ensures) (c .before .before .before .before .before .if2 .left) in
+    (ap (λ (x : Refusal). wrote x (c .before .before .before .before .before .before .record-length .result) (c .before .before .before .before .before .before .before .before .before .before .before .before .before .args .output .now) .answer) (c .accepted .ensures) ∙ ap (λ (x : Wrote). x .answer) w, c .before .before .before .lay-record .ensures ∙ ap (λ (x : Wrote). x .output) w)
+
+pub write-spec : {M : Type 1} → statement M
+write-spec =
+    tie.close
+    (tie.spec
+    unwritable-requires
+    returns
+    record-length-requires
+    refusal-requires
+    returns-2
+    lay-record-requires
+    accepted-requires
+    same-length
+    returns-3)
