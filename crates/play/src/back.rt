@@ -72,7 +72,7 @@ fn restored(board: Board, cell: usize, digit: u8, mask: u32) -> Board
 }
 
 // The mark struck from the notes of the peers in the mask, and from no others.
-fn struck_again(board: Board, cell: usize, digit: u8, mask: u32) -> Board
+fn restruck(board: Board, cell: usize, digit: u8, mask: u32) -> Board
     ensures { λ r. ⌜ r ≡ moved board (withNotes (stateOf board) (strikeMasked (board .notes) digit mask (peersOf cell))) (countsOf board) ⌝ }
 {
     let kept = board.notes;
@@ -97,12 +97,7 @@ pub fn marks_again(board: Board, m: Move, mask: u32) -> Board
     ensures { λ r. ⌜ r ≡ moved board (marksAgain (stateOf board) m mask) (countsOf board) ⌝ }
 {
     match m {
-        Move::Place { row, column, digit } => struck_again(
-            board,
-            cell_of(row, column),
-            digit,
-            mask,
-        ),
+        Move::Place { row, column, digit } => restruck(board, cell_of(row, column), digit, mask),
         Move::Erase { row: _, column: _ } => board,
         Move::WriteMark { row, column, digit } => marked(board, cell_of(row, column), digit),
         Move::StrikeMark { row, column, digit } => unmarked(board, cell_of(row, column), digit),

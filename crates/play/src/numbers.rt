@@ -56,29 +56,29 @@ fn digit_number(board: Board, cell: usize, digit: u8) -> u8
 }
 
 // Of a mark to write at a cell: 7 8 10.
-fn mark_number(board: Board, cell: usize, digit: u8) -> u8
-    ensures { λ r. ⌜ r ≡ first ((not (acceptsMarks (stateOf board) cell) ⇒ 7) ∷ (not (inRange digit) ⇒ 8) ∷ (contains (noteAt (stateOf board) cell) digit ⇒ 10) ∷ []) ⌝ }
+fn mark_number(board: Board, cell: usize, mark: u8) -> u8
+    ensures { λ r. ⌜ r ≡ first ((not (acceptsMarks (stateOf board) cell) ⇒ 7) ∷ (not (inRange mark) ⇒ 8) ∷ (contains (noteAt (stateOf board) cell) mark ⇒ 10) ∷ []) ⌝ }
 {
     if holds_digit(&board.digits, cell) {
         return 7;
     }
-    if !in_range(digit) {
+    if !in_range(mark) {
         return 8;
     }
-    if note::contains(note_at(&board.notes, cell), digit) {
+    if note::contains(note_at(&board.notes, cell), mark) {
         return 10;
     }
     0
 }
 
 // Of a mark to strike at a cell: 7 11.
-fn struck_number(board: Board, cell: usize, digit: u8) -> u8
-    ensures { λ r. ⌜ r ≡ first ((not (acceptsMarks (stateOf board) cell) ⇒ 7) ∷ (not (contains (noteAt (stateOf board) cell) digit) ⇒ 11) ∷ []) ⌝ }
+fn struck_number(board: Board, cell: usize, mark: u8) -> u8
+    ensures { λ r. ⌜ r ≡ first ((not (acceptsMarks (stateOf board) cell) ⇒ 7) ∷ (not (contains (noteAt (stateOf board) cell) mark) ⇒ 11) ∷ []) ⌝ }
 {
     if holds_digit(&board.digits, cell) {
         return 7;
     }
-    if !note::contains(note_at(&board.notes, cell), digit) {
+    if !note::contains(note_at(&board.notes, cell), mark) {
         return 11;
     }
     0

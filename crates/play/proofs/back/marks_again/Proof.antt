@@ -12,8 +12,8 @@ enum-known-m c = search needs
 cell-of-requires : tie.Need-cell-of-requires
 cell-of-requires c κs = search needs
 
-struck-again-requires : tie.Need-struck-again-requires
-struck-again-requires c κs = search needs
+restruck-requires : tie.Need-restruck-requires
+restruck-requires c κs = search needs
 
 enum-told : tie.Need-enum-told
 enum-told c = search needs
@@ -38,7 +38,7 @@ unmarked-requires c κs = search needs
 
 returns : tie.Need-returns
 unfolding marksAgain moved boardOf stateOf countsOf
-returns c = rw (c .before .before .before .m .given .1, c .struck-again .ensures, c .before .cell-of .ensures .0)
+returns c = rw (c .before .before .before .m .given .1, c .restruck .ensures, c .before .cell-of .ensures .0)
 
 returns-2 : tie.Need-returns-2
 unfolding marksAgain moved boardOf stateOf countsOf
@@ -53,4 +53,4 @@ unfolding marksAgain moved boardOf stateOf countsOf
 returns-4 c = rw (c .before .before .before .m3 .given .1, c .unmarked .ensures, c .before .cell-of3 .ensures .0)
 
 pub marks-again-spec : {M : Type 1} → statement M
-marks-again-spec = tie.close (tie.spec enum-known-m cell-of-requires struck-again-requires enum-told enum-known-m-2 cell-of-requires-2 marked-requires enum-known-m-3 cell-of-requires-3 unmarked-requires returns returns-2 returns-3 returns-4)
+marks-again-spec = tie.close (tie.spec enum-known-m cell-of-requires restruck-requires enum-told enum-known-m-2 cell-of-requires-2 marked-requires enum-known-m-3 cell-of-requires-3 unmarked-requires returns returns-2 returns-3 returns-4)

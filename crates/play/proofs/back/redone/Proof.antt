@@ -27,7 +27,10 @@ counted-requires c κs = search needs
 
 returns : tie.Need-returns
 unfolding redone moved boardOf stateOf countsOf
-returns c = rw (c .counted .ensures, c .before .marks-again .ensures, c .before .before .before .digit-again .ensures, c .before .before .move-of .ensures, c .before .before .before .before .retaken .ensures) (ap (λ (s : State). moved (c .before .before .before .before .before .args .board) s (retaken (countsOf (c .before .before .before .before .before .args .board)))) (again-halves (stateOf (c .before .before .before .before .before .args .board)) (c .before .before .before .before .before .args .slot)))
+returns c =
+    let a = c .before .before .before .before .before .args in
+    rw (c .counted .ensures, c .before .marks-again .ensures, c .before .before .before .digit-again .ensures, c .before .before .move-of .ensures, c .before .before .before .before .retaken .ensures)
+    (ap (λ (s : State). moved (a .board) s (retaken (countsOf (a .board)))) (again-halves (stateOf (a .board)) (a .slot)))
 
 pub redone-spec : {M : Type 1} → statement M
 redone-spec = tie.close (tie.spec retaken-requires digit-again-requires move-of-requires marks-again-requires counted-requires returns)

@@ -13,7 +13,10 @@ undo-refusal-requires c κs = search needs
 
 returns : tie.Need-returns
 unfolding slotRefusal
-returns c = rw (c .before .undo-refusal .ensures) (undo-refused (c .before .before .before .args .board) (c .before .before .before .args .journal .now) (λ p. c .if1 .taken (ap (λ (r : Refusal). r .number) (c .before .undo-refusal .ensures) ∙ p)))
+returns c =
+    let a = c .before .before .before .args in
+    let n = ap (λ (r : Refusal). r .number) (c .before .undo-refusal .ensures) in
+    rw (c .before .undo-refusal .ensures) (undo-refused (a .board) (a .journal .now) (λ p. c .if1 .taken (n ∙ p)))
 
 slot-at-requires : tie.Need-slot-at-requires
 slot-at-requires c κs = search needs
@@ -26,7 +29,10 @@ accepted-requires c κs = search needs
 
 returns-2 : tie.Need-returns-2
 unfolding slotRefusal
-returns-2 c = rw (c .accepted .ensures, c .before .undone .ensures, c .before .before .slot-at .ensures) (undo-made (c .before .before .before .before .before .before .args .board) (c .before .before .before .before .before .before .args .journal .now) (sym (ap (λ (r : Refusal). r .number) (c .before .before .before .before .undo-refusal .ensures)) ∙ c .before .before .before .if1 .left))
+returns-2 c =
+    let a = c .before .before .before .before .before .before .args in
+    let n = ap (λ (r : Refusal). r .number) (c .before .before .before .before .undo-refusal .ensures) in
+    rw (c .accepted .ensures, c .before .undone .ensures, c .before .before .slot-at .ensures) (undo-made (a .board) (a .journal .now) (sym n ∙ c .before .before .before .if1 .left))
 
 pub undo-spec : {M : Type 1} → statement M
 undo-spec = tie.close (tie.spec undo-refusal-requires returns slot-at-requires undone-requires accepted-requires returns-2)

@@ -27,7 +27,10 @@ counted-requires c κs = search needs
 
 returns : tie.Need-returns
 unfolding undone moved boardOf stateOf countsOf
-returns c = rw (c .counted .ensures, c .before .marks-back .ensures, c .before .before .before .digit-back .ensures, c .before .before .move-of .ensures, c .before .before .before .before .taken-back .ensures) (ap (λ (s : State). moved (c .before .before .before .before .before .args .board) s (takenBack (countsOf (c .before .before .before .before .before .args .board)))) (back-halves (stateOf (c .before .before .before .before .before .args .board)) (c .before .before .before .before .before .args .slot)))
+returns c =
+    let a = c .before .before .before .before .before .args in
+    rw (c .counted .ensures, c .before .marks-back .ensures, c .before .before .before .digit-back .ensures, c .before .before .move-of .ensures, c .before .before .before .before .taken-back .ensures)
+    (ap (λ (s : State). moved (a .board) s (takenBack (countsOf (a .board)))) (back-halves (stateOf (a .board)) (a .slot)))
 
 pub undone-spec : {M : Type 1} → statement M
 undone-spec = tie.close (tie.spec taken-back-requires digit-back-requires move-of-requires marks-back-requires counted-requires returns)

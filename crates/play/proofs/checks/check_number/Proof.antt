@@ -18,16 +18,25 @@ is-board-requires : tie.Need-is-board-requires
 is-board-requires c κs = search needs
 
 returns-2 : tie.Need-returns-2
-returns-2 c = sym (no-if _ 1 _ (ap not (eq-eqb _ _ (c .before .before .if1 .left))) ∙ refused _ 2 _ (ap not (sym (c .before .is-board .ensures)) ∙ c .if2 .taken))
+returns-2 c =
+    let one = ap not (eq-eqb _ _ (c .before .before .if1 .left)) in
+    sym (no-if _ 1 _ one ∙ refused _ 2 _ (ap not (sym (c .before .is-board .ensures)) ∙ c .if2 .taken))
 
 on-grid-requires : tie.Need-on-grid-requires
 on-grid-requires c κs = search needs
 
 returns-3 : tie.Need-returns-3
-returns-3 c = sym (no-if _ 1 _ (ap not (eq-eqb _ _ (c .before .before .before .before .if1 .left))) ∙ no-if _ 2 _ (ap not (sym (c .before .before .before .is-board .ensures)) ∙ c .before .before .if2 .left) ∙ refused _ 3 _ (ap not (sym (c .before .on-grid .ensures)) ∙ c .if3 .taken))
+returns-3 c =
+    let one = ap not (eq-eqb _ _ (c .before .before .before .before .if1 .left)) in
+    let two = ap not (sym (c .before .before .before .is-board .ensures)) ∙ c .before .before .if2 .left in
+    sym (no-if _ 1 _ one ∙ no-if _ 2 _ two ∙ refused _ 3 _ (ap not (sym (c .before .on-grid .ensures)) ∙ c .if3 .taken))
 
 returns-4 : tie.Need-returns-4
-returns-4 c = sym (no-if _ 1 _ (ap not (eq-eqb _ _ (c .before .before .before .before .before .if1 .left))) ∙ no-if _ 2 _ (ap not (sym (c .before .before .before .before .is-board .ensures)) ∙ c .before .before .before .if2 .left) ∙ no-if _ 3 _ (ap not (sym (c .before .before .on-grid .ensures)) ∙ c .before .if3 .left) ∙ refused _ 4 _ (c .if4 .taken))
+returns-4 c =
+    let one = ap not (eq-eqb _ _ (c .before .before .before .before .before .if1 .left)) in
+    let two = ap not (sym (c .before .before .before .before .is-board .ensures)) ∙ c .before .before .before .if2 .left in
+    let three = ap not (sym (c .before .before .on-grid .ensures)) ∙ c .before .if3 .left in
+    sym (no-if _ 1 _ one ∙ no-if _ 2 _ two ∙ no-if _ 3 _ three ∙ refused _ 4 _ (c .if4 .taken))
 
 cell-of-requires : tie.Need-cell-of-requires
 cell-of-requires c κs = search needs
@@ -37,15 +46,35 @@ holds-players-digit-requires c κs = search needs
 
 returns-5 : tie.Need-returns-5
 unfolding holdsPlayersDigit isGiven stateOf
-returns-5 c = sym (no-if _ 1 _ (ap not (eq-eqb _ _ (c .before .before .before .before .before .before .before .before .before .before .before .if1 .left))) ∙ no-if _ 2 _ (ap not (sym (c .before .before .before .before .before .before .before .before .before .before .is-board .ensures)) ∙ c .before .before .before .before .before .before .before .before .before .if2 .left) ∙ no-if _ 3 _ (ap not (sym (c .before .before .before .before .before .before .before .before .on-grid .ensures)) ∙ c .before .before .before .before .before .before .before .if3 .left) ∙ no-if _ 4 _ (c .before .before .before .before .before .before .if4 .left) ∙ refused _ 6 _ (ap not (sym (c .before .holds-players-digit .ensures ∙ ap (holdsPlayersDigit (stateOf (c .before .before .before .before .before .before .before .before .before .before .before .before .args .t1))) (c .before .before .cell-of .ensures .0))) ∙ c .if5 .taken))
+returns-5 c =
+    let one = ap not (eq-eqb _ _ (c .before .before .before .before .before .before .before .before .before .before .before .if1 .left)) in
+    let two = ap not (sym (c .before .before .before .before .before .before .before .before .before .before .is-board .ensures)) ∙ c .before .before .before .before .before .before .before .before .before .if2 .left in
+    let three = ap not (sym (c .before .before .before .before .before .before .before .before .on-grid .ensures)) ∙ c .before .before .before .before .before .before .before .if3 .left in
+    let four = c .before .before .before .before .before .before .if4 .left in
+    let held = ap not (sym (c .before .holds-players-digit .ensures ∙ ap (holdsPlayersDigit (stateOf (c .before .before .before .before .before .before .before .before .before .before .before .before .args .t1))) (c .before .before .cell-of .ensures .0))) in
+    sym (no-if _ 1 _ one ∙ no-if _ 2 _ two ∙ no-if _ 3 _ three ∙ no-if _ 4 _ four ∙ refused _ 6 _ (held ∙ c .if5 .taken))
 
 returns-6 : tie.Need-returns-6
 unfolding holdsPlayersDigit isGiven stateOf
-returns-6 c = sym (no-if _ 1 _ (ap not (eq-eqb _ _ (c .before .before .before .before .before .before .before .before .before .before .before .before .if1 .left))) ∙ no-if _ 2 _ (ap not (sym (c .before .before .before .before .before .before .before .before .before .before .before .is-board .ensures)) ∙ c .before .before .before .before .before .before .before .before .before .before .if2 .left) ∙ no-if _ 3 _ (ap not (sym (c .before .before .before .before .before .before .before .before .before .on-grid .ensures)) ∙ c .before .before .before .before .before .before .before .before .if3 .left) ∙ no-if _ 4 _ (c .before .before .before .before .before .before .before .if4 .left) ∙ no-if _ 6 _ (ap not (sym (c .before .before .holds-players-digit .ensures ∙ ap (holdsPlayersDigit (stateOf (c .before .before .before .before .before .before .before .before .before .before .before .before .before .args .t1))) (c .before .before .before .cell-of .ensures .0))) ∙ c .before .if5 .left) ∙ refused _ 16 _ (eq-eqb _ _ (c .if6 .taken)))
+returns-6 c =
+    let one = ap not (eq-eqb _ _ (c .before .before .before .before .before .before .before .before .before .before .before .before .if1 .left)) in
+    let two = ap not (sym (c .before .before .before .before .before .before .before .before .before .before .before .is-board .ensures)) ∙ c .before .before .before .before .before .before .before .before .before .before .if2 .left in
+    let three = ap not (sym (c .before .before .before .before .before .before .before .before .before .on-grid .ensures)) ∙ c .before .before .before .before .before .before .before .before .if3 .left in
+    let four = c .before .before .before .before .before .before .before .if4 .left in
+    let held = ap not (sym (c .before .before .holds-players-digit .ensures ∙ ap (holdsPlayersDigit (stateOf (c .before .before .before .before .before .before .before .before .before .before .before .before .before .args .t1))) (c .before .before .before .cell-of .ensures .0))) in
+    let six = held ∙ c .before .if5 .left in
+    sym (no-if _ 1 _ one ∙ no-if _ 2 _ two ∙ no-if _ 3 _ three ∙ no-if _ 4 _ four ∙ no-if _ 6 _ six ∙ refused _ 16 _ (eq-eqb _ _ (c .if6 .taken)))
 
 returns-7 : tie.Need-returns-7
 unfolding holdsPlayersDigit isGiven stateOf
-returns-7 c = sym (no-if _ 1 _ (ap not (eq-eqb _ _ (c .before .before .before .before .before .before .before .before .before .before .before .before .if1 .left))) ∙ no-if _ 2 _ (ap not (sym (c .before .before .before .before .before .before .before .before .before .before .before .is-board .ensures)) ∙ c .before .before .before .before .before .before .before .before .before .before .if2 .left) ∙ no-if _ 3 _ (ap not (sym (c .before .before .before .before .before .before .before .before .before .on-grid .ensures)) ∙ c .before .before .before .before .before .before .before .before .if3 .left) ∙ no-if _ 4 _ (c .before .before .before .before .before .before .before .if4 .left) ∙ no-if _ 6 _ (ap not (sym (c .before .before .holds-players-digit .ensures ∙ ap (holdsPlayersDigit (stateOf (c .before .before .before .before .before .before .before .before .before .before .before .before .before .args .t1))) (c .before .before .before .cell-of .ensures .0))) ∙ c .before .if5 .left) ∙ last-if _ 16 (ne-eqb _ _ (c .if6 .left)))
+returns-7 c =
+    let one = ap not (eq-eqb _ _ (c .before .before .before .before .before .before .before .before .before .before .before .before .if1 .left)) in
+    let two = ap not (sym (c .before .before .before .before .before .before .before .before .before .before .before .is-board .ensures)) ∙ c .before .before .before .before .before .before .before .before .before .before .if2 .left in
+    let three = ap not (sym (c .before .before .before .before .before .before .before .before .before .on-grid .ensures)) ∙ c .before .before .before .before .before .before .before .before .if3 .left in
+    let four = c .before .before .before .before .before .before .before .if4 .left in
+    let held = ap not (sym (c .before .before .holds-players-digit .ensures ∙ ap (holdsPlayersDigit (stateOf (c .before .before .before .before .before .before .before .before .before .before .before .before .before .args .t1))) (c .before .before .before .cell-of .ensures .0))) in
+    let six = held ∙ c .before .if5 .left in
+    sym (no-if _ 1 _ one ∙ no-if _ 2 _ two ∙ no-if _ 3 _ three ∙ no-if _ 4 _ four ∙ no-if _ 6 _ six ∙ last-if _ 16 (ne-eqb _ _ (c .if6 .left)))
 
 pub check-number-spec : {M : Type 1} → statement M
 check-number-spec = tie.close (tie.spec returns is-board-requires returns-2 on-grid-requires returns-3 returns-4 cell-of-requires holds-players-digit-requires returns-5 returns-6 returns-7)

@@ -32,7 +32,11 @@ same-length c = search needs
 
 returns : tie.Need-returns
 unfolding checkOn judge withCheck digitAt stateOf boardOf countsOf
-returns c = (rw (c .accepted .ensures, c .before .before .before .before .before .is-right .ensures, c .before .before .before .before .before .before .before .before .digit-at .ensures, c .before .before .before .before .before .before .before .before .before .before .before .cell-of .ensures .0), rw (c .before .before .before .before .before .is-right .ensures, c .before .before .before .before .before .before .before .before .digit-at .ensures, c .before .before .before .before .before .before .before .before .before .before .before .cell-of .ensures .0) at (c .before .before .before .write-check .ensures))
+returns c =
+    let right = c .before .before .before .before .before .is-right .ensures in
+    let digit = c .before .before .before .before .before .before .before .before .digit-at .ensures in
+    let cell = c .before .before .before .before .before .before .before .before .before .before .before .cell-of .ensures .0 in
+    (rw (c .accepted .ensures, right, digit, cell), rw (right, digit, cell) at (c .before .before .before .write-check .ensures))
 
 pub store-spec : {M : Type 1} → statement M
 store-spec = tie.close (tie.spec cell-of-requires digit-at-requires is-right-requires write-check-requires add-next accepted-requires same-length returns)

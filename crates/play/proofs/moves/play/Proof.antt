@@ -17,7 +17,10 @@ refusal-requires c κs = search needs
 
 returns : tie.Need-returns
 unfolding callTests lentTests lentBy recordMove bytesOf
-returns c = let p = play-refused (c .before .before .before .before .args .board) (c .before .before .before .before .args .journal .now) (c .before .before .before .before .args .m) _ (c .before .before .call-number .ensures) (c .before .if1 .taken) in (rw (c .refusal .ensures) (ap (λ (x : Played). x .answer) p), ap (λ (x : Played). x .journal) p)
+returns c =
+    let a = c .before .before .before .before .args in
+    let p = play-refused (a .board) (a .journal .now) (a .m) _ (c .before .before .call-number .ensures) (c .before .if1 .taken) in
+    (rw (c .refusal .ensures) (ap (λ (x : Played). x .answer) p), ap (λ (x : Played). x .journal) p)
 
 record-move-requires : tie.Need-record-move-requires
 record-move-requires c κs = search needs
@@ -30,7 +33,13 @@ same-length c = search needs
 
 returns-2 : tie.Need-returns-2
 unfolding callTests lentTests lentBy recordMove bytesOf
-returns-2 c = let p = play-made (c .before .before .before .before .before .before .before .before .args .board) (c .before .before .before .before .before .before .before .before .args .journal .now) (c .before .before .before .before .before .before .before .before .args .m) _ (c .before .before .before .before .before .before .call-number .ensures) (c .before .before .before .before .before .if1 .left) in (rw (c .accepted .ensures, c .before .before .before .record-move .ensures .0) (ap (λ (x : Played). x .answer) p), c .before .before .before .record-move .ensures .1 ∙ laid-over _ _ _ (play-room (c .before .before .before .before .before .before .before .before .args .board) (c .before .before .before .before .before .before .before .before .args .journal .now) (c .before .before .before .before .before .before .before .before .args .m) _ (c .before .before .before .before .before .before .call-number .ensures) (c .before .before .before .before .before .if1 .left)) ∙ ap (λ (x : Played). x .journal) p)
+returns-2 c =
+    let a = c .before .before .before .before .before .before .before .before .args in
+    let p = play-made (a .board) (a .journal .now) (a .m) _ (c .before .before .before .before .before .before .call-number .ensures) (c .before .before .before .before .before .if1 .left) in
+    let room = play-room (a .board) (a .journal .now) (a .m) _ (c .before .before .before .before .before .before .call-number .ensures) (c .before .before .before .before .before .if1 .left) in (
+      rw (c .accepted .ensures, c .before .before .before .record-move .ensures .0) (ap (λ (x : Played). x .answer) p),
+      c .before .before .before .record-move .ensures .1 ∙ laid-over _ _ _ room ∙ ap (λ (x : Played). x .journal) p,
+    )
 
 pub play-spec : {M : Type 1} → statement M
 play-spec = tie.close (tie.spec call-number-requires refusal-requires returns record-move-requires accepted-requires same-length returns-2)

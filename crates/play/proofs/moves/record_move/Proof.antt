@@ -27,7 +27,10 @@ same-length c = search needs
 
 returns : tie.Need-returns
 unfolding recordMove moved boardOf stateOf countsOf
-returns c = (rw (c .counted .ensures, c .before .perform .ensures, c .before .before .recorded .ensures), rw (c .before .before .before .before .before .before .before .slot-for .ensures) at (c .before .before .before .before .before .write-slot .ensures))
+returns c = (
+  rw (c .counted .ensures, c .before .perform .ensures, c .before .before .recorded .ensures),
+  rw (c .before .before .before .before .before .before .before .slot-for .ensures) at (c .before .before .before .before .before .write-slot .ensures),
+)
 
 pub record-move-spec : {M : Type 1} → statement M
 record-move-spec = tie.close (tie.spec slot-for-requires write-slot-requires recorded-requires perform-requires counted-requires same-length returns)

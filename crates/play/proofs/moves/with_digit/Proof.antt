@@ -21,7 +21,10 @@ returns c = rw (c .before .index-of .ensures)
 
 returns-2 : tie.Need-returns-2
 unfolding put
-returns-2 c = let n : length (c .before .before .args .digits) ≡ 81 = search needs in sym (set-out (c .before .before .args .digits) _ _ (omega (arith, c .before .index-of .ensures)))
+returns-2 c =
+    let a = c .before .before .args in
+    let n : length (a .digits) ≡ 81 = search needs in
+    sym (set-out (a .digits) _ _ (omega (arith, c .before .index-of .ensures)))
 
 pub with-digit-spec : {M : Type 1} → statement M
 with-digit-spec = tie.close (tie.spec index-of-requires array-write-out returns returns-2)

@@ -24,15 +24,27 @@ move-number-requires c κs = search needs
 
 returns-2 : tie.Need-returns-2
 unfolding lentNumber lentBy
-returns-2 c = c .before .move-number .ensures ∙ sym (two-pass 1 2 _ _ _ _ (c .before .before .before .lent-number .ensures .0) (omega arith) (omega arith) (c .before .before .if1 .left) ∙ join-refused (moveTests (stateOf (c .before .before .before .before .args .board)) (c .before .before .before .before .args .m)) _ (λ e. c .if2 .taken (c .before .move-number .ensures ∙ e)))
+returns-2 c =
+    let a = c .before .before .before .before .args in
+    c .before .move-number .ensures
+    ∙ sym (two-pass 1 2 _ _ _ _ (c .before .before .before .lent-number .ensures .0) (omega arith) (omega arith) (c .before .before .if1 .left)
+    ∙ join-refused (moveTests (stateOf (a .board)) (a .m)) _ (λ e. c .if2 .taken (c .before .move-number .ensures ∙ e)))
 
 returns-3 : tie.Need-returns-3
 unfolding lentNumber lentBy
-returns-3 c = sym (two-pass 1 2 _ _ _ _ (c .before .before .before .before .before .lent-number .ensures .0) (omega arith) (omega arith) (c .before .before .before .before .if1 .left) ∙ join-passed (moveTests (stateOf (c .before .before .before .before .before .before .args .board)) (c .before .before .before .before .before .before .args .m)) _ (moves-numbered _ _) (sym (c .before .before .before .move-number .ensures) ∙ c .before .before .if2 .left) ∙ refused _ 15 _ (eq-eqb _ _ (c .if3 .taken)))
+returns-3 c =
+    let a = c .before .before .before .before .before .before .args in
+    let made = sym (c .before .before .before .move-number .ensures) ∙ c .before .before .if2 .left in
+    sym (two-pass 1 2 _ _ _ _ (c .before .before .before .before .before .lent-number .ensures .0) (omega arith) (omega arith) (c .before .before .before .before .if1 .left)
+    ∙ join-passed (moveTests (stateOf (a .board)) (a .m)) _ (moves-numbered _ _) made ∙ refused _ 15 _ (eq-eqb _ _ (c .if3 .taken)))
 
 returns-4 : tie.Need-returns-4
 unfolding lentNumber lentBy
-returns-4 c = sym (two-pass 1 2 _ _ _ _ (c .before .before .before .before .before .lent-number .ensures .0) (omega arith) (omega arith) (c .before .before .before .before .if1 .left) ∙ join-passed (moveTests (stateOf (c .before .before .before .before .before .before .args .board)) (c .before .before .before .before .before .before .args .m)) _ (moves-numbered _ _) (sym (c .before .before .before .move-number .ensures) ∙ c .before .before .if2 .left) ∙ last-if _ 15 (ne-eqb _ _ (c .if3 .left)))
+returns-4 c =
+    let a = c .before .before .before .before .before .before .args in
+    let made = sym (c .before .before .before .move-number .ensures) ∙ c .before .before .if2 .left in
+    sym (two-pass 1 2 _ _ _ _ (c .before .before .before .before .before .lent-number .ensures .0) (omega arith) (omega arith) (c .before .before .before .before .if1 .left)
+    ∙ join-passed (moveTests (stateOf (a .board)) (a .m)) _ (moves-numbered _ _) made ∙ last-if _ 15 (ne-eqb _ _ (c .if3 .left)))
 
 pub call-number-spec : {M : Type 1} → statement M
 call-number-spec = tie.close (tie.spec lent-number-requires returns move-number-requires returns-2 returns-3 returns-4)

@@ -15,10 +15,14 @@ returns : tie.Need-returns
 returns c = sym (refused _ 3 _ (ap not (sym (c .before .on-grid .ensures)) ∙ c .if1 .taken))
 
 returns-2 : tie.Need-returns-2
-returns-2 c = sym (no-if _ 3 _ (ap not (sym (c .before .before .on-grid .ensures)) ∙ c .before .if1 .left) ∙ refused _ 4 _ (c .if2 .taken))
+returns-2 c =
+    let three = ap not (sym (c .before .before .on-grid .ensures)) ∙ c .before .if1 .left in
+    sym (no-if _ 3 _ three ∙ refused _ 4 _ (c .if2 .taken))
 
 returns-3 : tie.Need-returns-3
-returns-3 c = sym (no-if _ 3 _ (ap not (sym (c .before .before .on-grid .ensures)) ∙ c .before .if1 .left) ∙ last-if _ 4 (c .if2 .left))
+returns-3 c =
+    let three = ap not (sym (c .before .before .on-grid .ensures)) ∙ c .before .if1 .left in
+    sym (no-if _ 3 _ three ∙ last-if _ 4 (c .if2 .left))
 
 pub cell-number-spec : {M : Type 1} → statement M
 cell-number-spec = tie.close (tie.spec on-grid-requires returns returns-2 returns-3)

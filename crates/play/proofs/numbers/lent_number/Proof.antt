@@ -20,11 +20,15 @@ is-board-requires c κs = search needs
 
 returns-2 : tie.Need-returns-2
 unfolding lentNumber lentBy
-returns-2 c = (sym (no-if _ 1 _ (ap not (eq-eqb _ _ (c .before .before .if1 .left))) ∙ refused _ 2 _ (ap not (sym (c .before .is-board .ensures)) ∙ c .if2 .taken)), omega arith)
+returns-2 c =
+    let one = ap not (eq-eqb _ _ (c .before .before .if1 .left)) in
+    (sym (no-if _ 1 _ one ∙ refused _ 2 _ (ap not (sym (c .before .is-board .ensures)) ∙ c .if2 .taken)), omega arith)
 
 returns-3 : tie.Need-returns-3
 unfolding lentNumber lentBy
-returns-3 c = (sym (no-if _ 1 _ (ap not (eq-eqb _ _ (c .before .before .if1 .left))) ∙ last-if _ 2 (ap not (sym (c .before .is-board .ensures)) ∙ c .if2 .left)), omega arith)
+returns-3 c =
+    let one = ap not (eq-eqb _ _ (c .before .before .if1 .left)) in
+    (sym (no-if _ 1 _ one ∙ last-if _ 2 (ap not (sym (c .before .is-board .ensures)) ∙ c .if2 .left)), omega arith)
 
 pub lent-number-spec : {M : Type 1} → statement M
 lent-number-spec = tie.close (tie.spec returns is-board-requires returns-2 returns-3)

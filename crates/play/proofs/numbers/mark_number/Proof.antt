@@ -24,7 +24,9 @@ in-range-requires c κs = search needs
 
 returns-2 : tie.Need-returns-2
 unfolding acceptsMarks noteAt stateOf
-returns-2 c = sym (no-if _ 7 _ (ap (λ (t : Bool). not (not t)) (sym (c .before .before .before .holds-digit .ensures) ∙ c .before .before .if1 .left)) ∙ refused _ 8 _ (ap not (sym (c .before .in-range .ensures)) ∙ c .if2 .taken))
+returns-2 c =
+    let seven = ap (λ (t : Bool). not (not t)) (sym (c .before .before .before .holds-digit .ensures) ∙ c .before .before .if1 .left) in
+    sym (no-if _ 7 _ seven ∙ refused _ 8 _ (ap not (sym (c .before .in-range .ensures)) ∙ c .if2 .taken))
 
 note-at-requires : tie.Need-note-at-requires
 note-at-requires c κs = search needs
@@ -34,11 +36,19 @@ contains-requires c κs = search needs
 
 returns-3 : tie.Need-returns-3
 unfolding acceptsMarks noteAt stateOf
-returns-3 c = sym (no-if _ 7 _ (ap (λ (t : Bool). not (not t)) (sym (c .before .before .before .before .before .before .before .before .holds-digit .ensures) ∙ c .before .before .before .before .before .before .before .if1 .left)) ∙ no-if _ 8 _ (ap not (sym (c .before .before .before .before .before .before .in-range .ensures)) ∙ c .before .before .before .before .before .if2 .left) ∙ refused _ 10 _ (sym (c .before .contains .ensures ∙ ap (λ (n : ℕ). contains n (c .before .before .before .before .before .before .before .before .before .before .before .args .digit)) (c .before .before .note-at .ensures)) ∙ c .if3 .taken))
+returns-3 c =
+    let seven = ap (λ (t : Bool). not (not t)) (sym (c .before .before .before .before .before .before .before .before .holds-digit .ensures) ∙ c .before .before .before .before .before .before .before .if1 .left) in
+    let eight = ap not (sym (c .before .before .before .before .before .before .in-range .ensures)) ∙ c .before .before .before .before .before .if2 .left in
+    let stands = sym (c .before .contains .ensures ∙ ap (λ (n : ℕ). contains n (c .before .before .before .before .before .before .before .before .before .before .before .args .mark)) (c .before .before .note-at .ensures)) in
+    sym (no-if _ 7 _ seven ∙ no-if _ 8 _ eight ∙ refused _ 10 _ (stands ∙ c .if3 .taken))
 
 returns-4 : tie.Need-returns-4
 unfolding acceptsMarks noteAt stateOf
-returns-4 c = sym (no-if _ 7 _ (ap (λ (t : Bool). not (not t)) (sym (c .before .before .before .before .before .before .before .before .holds-digit .ensures) ∙ c .before .before .before .before .before .before .before .if1 .left)) ∙ no-if _ 8 _ (ap not (sym (c .before .before .before .before .before .before .in-range .ensures)) ∙ c .before .before .before .before .before .if2 .left) ∙ last-if _ 10 (sym (c .before .contains .ensures ∙ ap (λ (n : ℕ). contains n (c .before .before .before .before .before .before .before .before .before .before .before .args .digit)) (c .before .before .note-at .ensures)) ∙ c .if3 .left))
+returns-4 c =
+    let seven = ap (λ (t : Bool). not (not t)) (sym (c .before .before .before .before .before .before .before .before .holds-digit .ensures) ∙ c .before .before .before .before .before .before .before .if1 .left) in
+    let eight = ap not (sym (c .before .before .before .before .before .before .in-range .ensures)) ∙ c .before .before .before .before .before .if2 .left in
+    let stands = sym (c .before .contains .ensures ∙ ap (λ (n : ℕ). contains n (c .before .before .before .before .before .before .before .before .before .before .before .args .mark)) (c .before .before .note-at .ensures)) in
+    sym (no-if _ 7 _ seven ∙ no-if _ 8 _ eight ∙ last-if _ 10 (stands ∙ c .if3 .left))
 
 pub mark-number-spec : {M : Type 1} → statement M
 mark-number-spec = tie.close (tie.spec holds-digit-requires returns in-range-requires returns-2 note-at-requires contains-requires returns-3 returns-4)

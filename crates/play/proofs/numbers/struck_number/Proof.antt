@@ -27,11 +27,17 @@ contains-requires c κs = search needs
 
 returns-2 : tie.Need-returns-2
 unfolding acceptsMarks noteAt stateOf
-returns-2 c = sym (no-if _ 7 _ (ap (λ (t : Bool). not (not t)) (sym (c .before .before .before .before .before .before .holds-digit .ensures) ∙ c .before .before .before .before .before .if1 .left)) ∙ refused _ 11 _ (ap not (sym (c .before .contains .ensures ∙ ap (λ (n : ℕ). contains n (c .before .before .before .before .before .before .before .before .before .args .digit)) (c .before .before .note-at .ensures))) ∙ c .if2 .taken))
+returns-2 c =
+    let seven = ap (λ (t : Bool). not (not t)) (sym (c .before .before .before .before .before .before .holds-digit .ensures) ∙ c .before .before .before .before .before .if1 .left) in
+    let stands = sym (c .before .contains .ensures ∙ ap (λ (n : ℕ). contains n (c .before .before .before .before .before .before .before .before .before .args .mark)) (c .before .before .note-at .ensures)) in
+    sym (no-if _ 7 _ seven ∙ refused _ 11 _ (ap not stands ∙ c .if2 .taken))
 
 returns-3 : tie.Need-returns-3
 unfolding acceptsMarks noteAt stateOf
-returns-3 c = sym (no-if _ 7 _ (ap (λ (t : Bool). not (not t)) (sym (c .before .before .before .before .before .before .holds-digit .ensures) ∙ c .before .before .before .before .before .if1 .left)) ∙ last-if _ 11 (ap not (sym (c .before .contains .ensures ∙ ap (λ (n : ℕ). contains n (c .before .before .before .before .before .before .before .before .before .args .digit)) (c .before .before .note-at .ensures))) ∙ c .if2 .left))
+returns-3 c =
+    let seven = ap (λ (t : Bool). not (not t)) (sym (c .before .before .before .before .before .before .holds-digit .ensures) ∙ c .before .before .before .before .before .if1 .left) in
+    let stands = sym (c .before .contains .ensures ∙ ap (λ (n : ℕ). contains n (c .before .before .before .before .before .before .before .before .before .args .mark)) (c .before .before .note-at .ensures)) in
+    sym (no-if _ 7 _ seven ∙ last-if _ 11 (ap not stands ∙ c .if2 .left))
 
 pub struck-number-spec : {M : Type 1} → statement M
 struck-number-spec = tie.close (tie.spec holds-digit-requires returns note-at-requires contains-requires returns-2 returns-3)

@@ -24,7 +24,8 @@ mark-number-requires c κs = search needs
 
 returns-2 : tie.Need-returns-2
 unfolding moveTests stateOf
-returns-2 c = rw (c .mark-number .ensures, c .before .cell-of .ensures .0) (sym (two-pass 3 4 _ _ _ _ (c .before .before .before .cell-number .ensures) (omega arith) (omega arith) (c .before .before .if1 .left)))
+returns-2 c = rw (c .mark-number .ensures, c .before .cell-of .ensures .0)
+    (sym (two-pass 3 4 _ _ _ _ (c .before .before .before .cell-number .ensures) (omega arith) (omega arith) (c .before .before .if1 .left)))
 
 pub write-mark-number-spec : {M : Type 1} → statement M
 write-mark-number-spec = tie.close (tie.spec cell-number-requires returns cell-of-requires mark-number-requires returns-2)

@@ -22,31 +22,51 @@ part-result-end c = search needs
 
 returns : tie.Need-returns
 unfolding latestNumber lentTests lentBy
-returns c = (latest-none (c .before .before .before .before .args .board) (c .before .before .before .before .args .journal .now) (λ p. c .before .if1 .taken (c .before .before .latest-number .ensures ∙ p)), c .before .before .latest-number .ensures)
+returns c =
+    let a = c .before .before .before .before .args in
+    (latest-none (a .board) (a .journal .now) (λ p. c .before .if1 .taken (c .before .before .latest-number .ensures ∙ p)), c .before .before .latest-number .ensures)
 
 mul-end : tie.Need-mul-end
 unfolding latestNumber lentTests lentBy
-mul-end c = let k = latest-within (c .before .before .before .before .args .board) (c .before .before .before .before .args .journal .now) (sym (c .before .before .latest-number .ensures) ∙ c .before .if1 .left) in omega (arith, k .0, k .1)
+mul-end c =
+    let a = c .before .before .before .before .args in
+    let k = latest-within (a .board) (a .journal .now) (sym (c .before .before .latest-number .ensures) ∙ c .before .if1 .left) in
+    omega (arith, k .0, k .1)
 
 sub-start : tie.Need-sub-start
 unfolding latestNumber lentTests lentBy
-sub-start c = let k = latest-within (c .before .before .before .before .args .board) (c .before .before .before .before .args .journal .now) (sym (c .before .before .latest-number .ensures) ∙ c .before .if1 .left) in omega (arith, k .0, k .1)
+sub-start c =
+    let a = c .before .before .before .before .args in
+    let k = latest-within (a .board) (a .journal .now) (sym (c .before .before .latest-number .ensures) ∙ c .before .if1 .left) in
+    omega (arith, k .0, k .1)
 
 sub-result-2 : tie.Need-sub-result-2
 unfolding latestNumber lentTests lentBy
-sub-result-2 c = let k = latest-within (c .before .before .before .before .args .board) (c .before .before .before .before .args .journal .now) (sym (c .before .before .latest-number .ensures) ∙ c .before .if1 .left) in omega (arith, k .0, k .1)
+sub-result-2 c =
+    let a = c .before .before .before .before .args in
+    let k = latest-within (a .board) (a .journal .now) (sym (c .before .before .latest-number .ensures) ∙ c .before .if1 .left) in
+    omega (arith, k .0, k .1)
 
 part-result-start-2 : tie.Need-part-result-start-2
 unfolding latestNumber lentTests lentBy
-part-result-start-2 c = let k = latest-within (c .before .before .before .before .args .board) (c .before .before .before .before .args .journal .now) (sym (c .before .before .latest-number .ensures) ∙ c .before .if1 .left) in omega (arith, k .0, k .1)
+part-result-start-2 c =
+    let a = c .before .before .before .before .args in
+    let k = latest-within (a .board) (a .journal .now) (sym (c .before .before .latest-number .ensures) ∙ c .before .if1 .left) in
+    omega (arith, k .0, k .1)
 
 part-result-end-2 : tie.Need-part-result-end-2
 unfolding latestNumber lentTests lentBy
-part-result-end-2 c = let k = latest-within (c .before .before .before .before .args .board) (c .before .before .before .before .args .journal .now) (sym (c .before .before .latest-number .ensures) ∙ c .before .if1 .left) in omega (arith, k .0, k .1)
+part-result-end-2 c =
+    let a = c .before .before .before .before .args in
+    let k = latest-within (a .board) (a .journal .now) (sym (c .before .before .latest-number .ensures) ∙ c .before .if1 .left) in
+    omega (arith, k .0, k .1)
 
 returns-2 : tie.Need-returns-2
 unfolding latestNumber lentTests lentBy
-returns-2 c = let p = sym (c .before .before .before .latest-number .ensures) ∙ c .before .before .if1 .left in (part-latest (c .before .before .before .before .before .args .journal .now) _ (latest-within (c .before .before .before .before .before .args .board) (c .before .before .before .before .before .args .journal .now) p .0) ∙ latest-part (c .before .before .before .before .before .args .board) (c .before .before .before .before .before .args .journal .now) p, c .before .before .before .latest-number .ensures)
+returns-2 c =
+    let a = c .before .before .before .before .before .args in
+    let p = sym (c .before .before .before .latest-number .ensures) ∙ c .before .before .if1 .left in
+    (part-latest (a .journal .now) _ (latest-within (a .board) (a .journal .now) p .0) ∙ latest-part (a .board) (a .journal .now) p, c .before .before .before .latest-number .ensures)
 
 pub latest-spec : {M : Type 1} → statement M
 latest-spec = tie.close (tie.spec latest-number-requires sub-result part-result-start part-result-end returns mul-end sub-start sub-result-2 part-result-start-2 part-result-end-2 returns-2)

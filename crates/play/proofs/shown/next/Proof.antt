@@ -22,31 +22,51 @@ part-result-end c = search needs
 
 returns : tie.Need-returns
 unfolding nextNumber lentTests lentBy
-returns c = (next-none (c .before .before .before .before .args .board) (c .before .before .before .before .args .journal .now) (λ p. c .before .if1 .taken (c .before .before .next-number .ensures ∙ p)), c .before .before .next-number .ensures)
+returns c =
+    let a = c .before .before .before .before .args in
+    (next-none (a .board) (a .journal .now) (λ p. c .before .if1 .taken (c .before .before .next-number .ensures ∙ p)), c .before .before .next-number .ensures)
 
 mul-start : tie.Need-mul-start
 unfolding nextNumber lentTests lentBy
-mul-start c = let k = next-within (c .before .before .before .before .args .board) (c .before .before .before .before .args .journal .now) (sym (c .before .before .next-number .ensures) ∙ c .before .if1 .left) in omega (arith, k)
+mul-start c =
+    let a = c .before .before .before .before .args in
+    let k = next-within (a .board) (a .journal .now) (sym (c .before .before .next-number .ensures) ∙ c .before .if1 .left) in
+    omega (arith, k)
 
 add-end : tie.Need-add-end
 unfolding nextNumber lentTests lentBy
-add-end c = let k = next-within (c .before .before .before .before .args .board) (c .before .before .before .before .args .journal .now) (sym (c .before .before .next-number .ensures) ∙ c .before .if1 .left) in omega (arith, k)
+add-end c =
+    let a = c .before .before .before .before .args in
+    let k = next-within (a .board) (a .journal .now) (sym (c .before .before .next-number .ensures) ∙ c .before .if1 .left) in
+    omega (arith, k)
 
 sub-result-2 : tie.Need-sub-result-2
 unfolding nextNumber lentTests lentBy
-sub-result-2 c = let k = next-within (c .before .before .before .before .args .board) (c .before .before .before .before .args .journal .now) (sym (c .before .before .next-number .ensures) ∙ c .before .if1 .left) in omega (arith, k)
+sub-result-2 c =
+    let a = c .before .before .before .before .args in
+    let k = next-within (a .board) (a .journal .now) (sym (c .before .before .next-number .ensures) ∙ c .before .if1 .left) in
+    omega (arith, k)
 
 part-result-start-2 : tie.Need-part-result-start-2
 unfolding nextNumber lentTests lentBy
-part-result-start-2 c = let k = next-within (c .before .before .before .before .args .board) (c .before .before .before .before .args .journal .now) (sym (c .before .before .next-number .ensures) ∙ c .before .if1 .left) in omega (arith, k)
+part-result-start-2 c =
+    let a = c .before .before .before .before .args in
+    let k = next-within (a .board) (a .journal .now) (sym (c .before .before .next-number .ensures) ∙ c .before .if1 .left) in
+    omega (arith, k)
 
 part-result-end-2 : tie.Need-part-result-end-2
 unfolding nextNumber lentTests lentBy
-part-result-end-2 c = let k = next-within (c .before .before .before .before .args .board) (c .before .before .before .before .args .journal .now) (sym (c .before .before .next-number .ensures) ∙ c .before .if1 .left) in omega (arith, k)
+part-result-end-2 c =
+    let a = c .before .before .before .before .args in
+    let k = next-within (a .board) (a .journal .now) (sym (c .before .before .next-number .ensures) ∙ c .before .if1 .left) in
+    omega (arith, k)
 
 returns-2 : tie.Need-returns-2
 unfolding nextNumber lentTests lentBy
-returns-2 c = let p = sym (c .before .before .before .next-number .ensures) ∙ c .before .before .if1 .left in (part-next (c .before .before .before .before .before .args .journal .now) _ ∙ next-part (c .before .before .before .before .before .args .board) (c .before .before .before .before .before .args .journal .now) p, c .before .before .before .next-number .ensures)
+returns-2 c =
+    let a = c .before .before .before .before .before .args in
+    let p = sym (c .before .before .before .next-number .ensures) ∙ c .before .before .if1 .left in
+    (part-next (a .journal .now) _ ∙ next-part (a .board) (a .journal .now) p, c .before .before .before .next-number .ensures)
 
 pub next-spec : {M : Type 1} → statement M
 next-spec = tie.close (tie.spec next-number-requires sub-result part-result-start part-result-end returns mul-start add-end sub-result-2 part-result-start-2 part-result-end-2 returns-2)

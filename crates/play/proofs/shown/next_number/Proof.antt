@@ -20,11 +20,13 @@ returns c = two-refuse 1 2 _ _ _ _ (c .before .lent-number .ensures .0) (c .if1 
 
 returns-2 : tie.Need-returns-2
 unfolding lentNumber lentBy
-returns-2 c = sym (two-pass 1 2 _ _ _ _ (c .before .before .before .lent-number .ensures .0) (omega arith) (omega arith) (c .before .before .if1 .left) ∙ refused _ 13 _ (le-leb _ _ (c .if2 .taken)))
+returns-2 c = sym (two-pass 1 2 _ _ _ _ (c .before .before .before .lent-number .ensures .0) (omega arith) (omega arith) (c .before .before .if1 .left)
+    ∙ refused _ 13 _ (le-leb _ _ (c .if2 .taken)))
 
 returns-3 : tie.Need-returns-3
 unfolding lentNumber lentBy
-returns-3 c = sym (two-pass 1 2 _ _ _ _ (c .before .before .before .lent-number .ensures .0) (omega arith) (omega arith) (c .before .before .if1 .left) ∙ last-if _ 13 (lt-leb _ _ (c .if2 .left)))
+returns-3 c = sym (two-pass 1 2 _ _ _ _ (c .before .before .before .lent-number .ensures .0) (omega arith) (omega arith) (c .before .before .if1 .left)
+    ∙ last-if _ 13 (lt-leb _ _ (c .if2 .left)))
 
 pub next-number-spec : {M : Type 1} → statement M
 next-number-spec = tie.close (tie.spec lent-number-requires returns returns-2 returns-3)
