@@ -109,7 +109,7 @@ unfolding session.called session.callOf session.after session.answers session.st
 of-session = 0
 
 unfoldable of-positions : ℕ
-unfolding positions.digitG positions.solutionG positions.givensFrom positions.givensE positions.givensL positions.openG positions.numbers positions.verdicts positions.played positions.marksAround positions.callsE positions.notesAround positions.inTurn positions.write positions.reopening positions.recordH positions.itemsFrom positions.recordL positions.recordI positions.callsF
+unfolding positions.digitG positions.solutionG positions.givensFrom positions.givensE positions.givensL positions.openG positions.numbers positions.verdicts positions.marksAround positions.callsE positions.notesAround positions.inTurn positions.write positions.reopening positions.recordH positions.itemsFrom positions.recordL positions.recordI positions.callsF
 of-positions = 0
 
 unfoldable pub computing : ℕ

@@ -4,13 +4,14 @@
 use Prim.Native.Nat.{ℕ, zero, suc, _+_, _-_, _*_, _≤_, _<_, min}
 use mathlib.Core.Path.{_≡_, refl, sym, ap, _∙_}
 use mathlib.Core.Bool.{Bool, true, false, not}
-use mathlib.Core.List.{List, [], _∷_, _++_, map}
+use mathlib.Core.List.{List, [], _∷_, _++_}
 use native.Mathlib.Omega.{arith}
 use borrow.Author.Tests.{le-leb, lt-leb, ne-eqb}
 use lib.Dec.{eqb}
 use lib.ListN.{length, replicate, length-replicate}
 use Rattle.sudoku.specs.Tests.{pick, both, first, _⇒_}
 use Rattle.puzzle.specs.Refusals.{refusal, accepted}
+use Rattle.puzzle.specs.Givens.{triples}
 use Rattle.journal.specs.declared.Move.{Move}
 use Rattle.journal.specs.declared.Move.the-variants.{WriteMark, StrikeMark}
 use Rattle.journal.specs.declared.Slot.{Slot}
@@ -22,12 +23,12 @@ use Rattle.journal.specs.State.{opening, withNotes}
 use Rattle.board.specs.declared.Board.{Board}
 use Rattle.board.specs.Board.{stateOf, boardOf, isBoard, moved}
 use Rattle.board.specs.declared.Answer.{Answer}
-use Rattle.board.specs.Open.{noChecks, noMoves, answer}
+use Rattle.board.specs.Open.{noChecks, noMoves, answer, openedFresh}
 use Rattle.play.specs.Play.{Played, played, playOf, recordMove, moveTests, lentTests, callTests, undoOf, undone, canTakeBack, slotRefusal}
 use Rattle.calls.specs.declared.Call.{Call}
 use Rattle.calls.specs.declared.Call.the-variants.{Undo}
-use Rattle.calls.specs.Session.{Session, Said, called, callOf, answers, started}
-use Rattle.session.specs.Positions.{solutionG, givensE, openG, numbers, writeMark, strikeMark, inTurn}
+use Rattle.calls.specs.Session.{Session, called, callOf, answers, started}
+use Rattle.session.specs.Positions.{solutionG, givensE, numbers, writeMark, strikeMark, inTurn, RowK}
 use Rattle.journal.proofs.Memory.{length-over, bytes-length, slot-written}
 use Rattle.session.proofs.Computing.{computing}
 
@@ -88,15 +89,12 @@ struck n journal h l =
     play-by (withNote 2 n) journal (StrikeMark 1 1 1) 0 l (marked-is-board n (omega arith)) (λ i. pick (not-full n h i) 15 0)
     ∙ (λ i. played accepted (moved (withNote 0 n) (stateOf (withNote 0 n)) (recorded-next n h i)) (over journal (slotBytes * n) (bytesOf (slot 5))))
 
--- a session with this board and journal, no check stored, and the numbers that calls answer from there
+-- a session with this board and journal and no check stored, and the numbers that a call's answer and the calls after it give
 unfoldable with : Board → List ℕ → Session
 with b journal = record { board = b; journal = journal; checks = noChecks }
 
-unfoldable numbersFrom : Session → List Call → List ℕ
-numbersFrom s calls = map (λ (a : Said). a .refusal .number) (answers s calls)
-
 unfoldable from : Played → List Call → List ℕ
-from p calls = p .answer .refusal .number ∷ numbersFrom (with (p .answer .board) (p .journal)) calls
+from p calls = p .answer .refusal .number ∷ numbers (with (p .answer .board) (p .journal)) calls
 
 -- the journal after a turn
 unfoldable turned : ℕ → List ℕ → List ℕ
@@ -114,9 +112,9 @@ module _ (n : ℕ) (journal : List ℕ) (h : n + 1 < maxMoves) (l : length journ
       ∙ after-write
 
   -- both are accepted, and the board is as it was but for its counts
-  turn : (calls : List Call) → numbersFrom (with (withNote 0 n) journal) (writeMark 1 1 1 ∷ strikeMark 1 1 1 ∷ calls)
-      ≡ 0 ∷ 0 ∷ numbersFrom (with (withNote 0 (n + 1 + 1)) (turned n journal)) calls
-  unfolding numbersFrom with from answers callOf called turned
+  turn : (calls : List Call) → numbers (with (withNote 0 n) journal) (writeMark 1 1 1 ∷ strikeMark 1 1 1 ∷ calls)
+      ≡ 0 ∷ 0 ∷ numbers (with (withNote 0 (n + 1 + 1)) (turned n journal)) calls
+  unfolding numbers with from answers callOf called turned
   turn calls =
       ap (λ (p : Played). from p (strikeMark 1 1 1 ∷ calls)) (written n journal (omega arith) l)
       ∙ ap (λ (p : Played). 0 ∷ from p calls) (struck (n + 1) (over journal (slotBytes * n) (bytesOf (slot 4))) h after-write)
@@ -154,11 +152,11 @@ module _ (journal : List ℕ) (l : length journal ≡ journalBytes) where
   struck-again = play-by markBack journal (StrikeMark 1 1 1) 0 l refl refl
 
   full : slotAt journal maxMoves ≡ slot 5
-      → numbersFrom (with (withNote 0 maxMoves) journal) (writeMark 1 1 1 ∷ Undo ∷ strikeMark 1 1 1 ∷ []) ≡ 15 ∷ 0 ∷ 0 ∷ []
-  unfolding numbersFrom with from answers callOf called recordMove
+      → numbers (with (withNote 0 maxMoves) journal) (writeMark 1 1 1 ∷ Undo ∷ strikeMark 1 1 1 ∷ []) ≡ 15 ∷ 0 ∷ 0 ∷ []
+  unfolding numbers with from answers callOf called recordMove
   full e =
       ap (λ (p : Played). from p (Undo ∷ strikeMark 1 1 1 ∷ [])) written-again
-      ∙ ap (λ (a : Answer). 15 ∷ a .refusal .number ∷ numbersFrom (with (a .board) journal) (strikeMark 1 1 1 ∷ [])) (undo-full e)
+      ∙ ap (λ (a : Answer). 15 ∷ a .refusal .number ∷ numbers (with (a .board) journal) (strikeMark 1 1 1 ∷ [])) (undo-full e)
       ∙ ap (λ (p : Played). 15 ∷ 0 ∷ from p []) struck-again
 
 -- ---- all turns
@@ -169,10 +167,10 @@ answered (suc m) = 0 ∷ 0 ∷ answered m
 
 -- m turns are left after n moves. Where none is left, the latest slot is the strike's
 turns : (m n : ℕ) (journal : List ℕ) → n + 2 * m ≡ maxMoves → length journal ≡ journalBytes → (m ≡ 0 → slotAt journal n ≡ slot 5)
-    → numbersFrom (with (withNote 0 n) journal) (inTurn m ++ writeMark 1 1 1 ∷ Undo ∷ strikeMark 1 1 1 ∷ []) ≡ answered m
+    → numbers (with (withNote 0 n) journal) (inTurn m ++ writeMark 1 1 1 ∷ Undo ∷ strikeMark 1 1 1 ∷ []) ≡ answered m
 unfolding inTurn answered
 turns zero n journal s l e =
-    ap (λ (k : ℕ). numbersFrom (with (withNote 0 k) journal) (writeMark 1 1 1 ∷ Undo ∷ strikeMark 1 1 1 ∷ [])) full-count
+    ap (λ (k : ℕ). numbers (with (withNote 0 k) journal) (writeMark 1 1 1 ∷ Undo ∷ strikeMark 1 1 1 ∷ [])) full-count
     ∙ full journal l (ap (slotAt journal) (sym full-count) ∙ e refl)
   where
     full-count : n ≡ maxMoves
@@ -182,12 +180,15 @@ turns (suc m) n journal s l e =
     ∙ ap (λ (k : List ℕ). 0 ∷ 0 ∷ k)
     (turns m (n + 1 + 1) (turned n journal) (omega (arith, s)) (after-strike n journal (omega (arith, s)) l) (λ _. latest n journal (omega (arith, s)) l))
 
-opened : started (openG givensE) ≡ with (withNote 0 0) noMoves
-unfolding computing with withNote
-opened = refl
+in-turn : (s : Session) → s ≡ with (withNote 0 0) noMoves → RowK s
+unfolding answered noMoves
+in-turn s e =
+    record {
+      answered =
+          ap (λ (s : Session). numbers s (inTurn 512 ++ writeMark 1 1 1 ∷ Undo ∷ strikeMark 1 1 1 ∷ [])) e
+          ∙ turns 512 0 noMoves refl (length-replicate {A = ℕ} journalBytes 0) (λ e. absurd (omega (arith, e)));
+    }
 
-pub in-turn : numbers givensE (inTurn 512 ++ writeMark 1 1 1 ∷ Undo ∷ strikeMark 1 1 1 ∷ []) ≡ replicate 1024 0 ++ 15 ∷ 0 ∷ 0 ∷ []
-unfolding numbers numbersFrom answered noMoves
-in-turn =
-    ap (λ (s : Session). numbersFrom s (inTurn 512 ++ writeMark 1 1 1 ∷ Undo ∷ strikeMark 1 1 1 ∷ [])) opened
-    ∙ turns 512 0 noMoves refl (length-replicate {A = ℕ} journalBytes 0) (λ e. absurd (omega (arith, e)))
+pub row-k : RowK (started (openedFresh (triples givensE) solutionG))
+unfolding computing with withNote
+row-k = in-turn (started (openedFresh (triples givensE) solutionG)) refl

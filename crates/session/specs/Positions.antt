@@ -45,6 +45,12 @@ givensL = givensFrom 80 1
 unfoldable pub openG : List ℕ → Opened
 openG givens = openOf givens solutionG noMoves noChecks
 
+unfoldable pub E : Session
+E = started (openG givensE)
+
+unfoldable pub L : Session
+L = started (openG givensL)
+
 -- the calls
 abbrev pub place : ℕ → ℕ → ℕ → Call
 place row column digit = Make (Place row column digit)
@@ -55,15 +61,12 @@ writeMark row column digit = Make (WriteMark row column digit)
 abbrev pub strikeMark : ℕ → ℕ → ℕ → Call
 strikeMark row column digit = Make (StrikeMark row column digit)
 
--- played from the opening of some givens: the numbers that the calls answer, their verdicts, and what they leave
-unfoldable pub numbers : List ℕ → List Call → List ℕ
-numbers givens calls = map (λ (a : Said). a .refusal .number) (answers (started (openG givens)) calls)
+-- the numbers that calls answer from a session on, and their verdicts
+unfoldable pub numbers : Session → List Call → List ℕ
+numbers s calls = map (λ (a : Said). a .refusal .number) (answers s calls)
 
-unfoldable pub verdicts : List ℕ → List Call → List Bool
-verdicts givens calls = map (λ (a : Said). a .right) (answers (started (openG givens)) calls)
-
-unfoldable pub played : List ℕ → List Call → Session
-played givens calls = after (started (openG givens)) calls
+unfoldable pub verdicts : Session → List Call → List Bool
+verdicts s calls = map (λ (a : Said). a .right) (answers s calls)
 
 -- e: mark 5 written in all peers of (5,5)
 unfoldable pub marksAround : List ℕ → List Call
@@ -118,38 +121,38 @@ pub record Openings : Type 0 where
   pub L-opens : openG givensL ≡ openedFresh (triples givensL) solutionG
 
 -- a | L: place (9,9) 8; undo; place (0,1) 5 | solved; 4; 3
-pub record RowA : Type 0 where
-  pub answered : numbers givensL (place 9 9 8 ∷ Undo ∷ place 0 1 5 ∷ []) ≡ 0 ∷ 4 ∷ 3 ∷ []
-  pub solved : played givensL (place 9 9 8 ∷ []) .board .solved ≡ true
+pub record RowA (s : Session) : Type 0 where
+  pub answered : numbers s (place 9 9 8 ∷ Undo ∷ place 0 1 5 ∷ []) ≡ 0 ∷ 4 ∷ 3 ∷ []
+  pub solved : after s (place 9 9 8 ∷ []) .board .solved ≡ true
 
 -- b | L: place (9,9) 7; check | unsolved, conflicting; verdict 0
-pub record RowB : Type 0 where
-  pub answered : numbers givensL (place 9 9 7 ∷ Check 9 9 ∷ []) ≡ 0 ∷ 0 ∷ []
-  pub unsolved : played givensL (place 9 9 7 ∷ []) .board .solved ≡ false
-  pub conflicting : conflicts (played givensL (place 9 9 7 ∷ []) .board .digits) (cellOf 9 9) ≡ true
-  pub verdict : verdicts givensL (place 9 9 7 ∷ Check 9 9 ∷ []) ≡ false ∷ false ∷ []
-  pub stored : verdictByte (played givensL (place 9 9 7 ∷ Check 9 9 ∷ []) .checks) 1 ≡ 0
+pub record RowB (s : Session) : Type 0 where
+  pub answered : numbers s (place 9 9 7 ∷ Check 9 9 ∷ []) ≡ 0 ∷ 0 ∷ []
+  pub unsolved : after s (place 9 9 7 ∷ []) .board .solved ≡ false
+  pub conflicting : conflicts (after s (place 9 9 7 ∷ []) .board .digits) (cellOf 9 9) ≡ true
+  pub verdict : verdicts s (place 9 9 7 ∷ Check 9 9 ∷ []) ≡ false ∷ false ∷ []
+  pub stored : verdictByte (after s (place 9 9 7 ∷ Check 9 9 ∷ []) .checks) 1 ≡ 0
 
 -- c | E: place (1,1) 5 twice, then 6 | accepted; 9; accepted with before 5
-pub record RowC : Type 0 where
-  pub answered : numbers givensE (place 1 1 5 ∷ place 1 1 5 ∷ place 1 1 6 ∷ []) ≡ 0 ∷ 9 ∷ 0 ∷ []
-  pub before : slotAt (played givensE (place 1 1 5 ∷ place 1 1 5 ∷ place 1 1 6 ∷ []) .journal) 2 .before ≡ 5
+pub record RowC (s : Session) : Type 0 where
+  pub answered : numbers s (place 1 1 5 ∷ place 1 1 5 ∷ place 1 1 6 ∷ []) ≡ 0 ∷ 9 ∷ 0 ∷ []
+  pub before : slotAt (after s (place 1 1 5 ∷ place 1 1 5 ∷ place 1 1 6 ∷ []) .journal) 2 .before ≡ 5
 
 -- d | E: place (5,5) 10; strike mark 10 there | 8; 11
-pub record RowD : Type 0 where
-  pub answered : numbers givensE (place 5 5 10 ∷ strikeMark 5 5 10 ∷ []) ≡ 8 ∷ 11 ∷ []
+pub record RowD (s : Session) : Type 0 where
+  pub answered : numbers s (place 5 5 10 ∷ strikeMark 5 5 10 ∷ []) ≡ 8 ∷ 11 ∷ []
 
 -- e | E: mark 5 in all peers of (5,5), place 5 there, undo | mask bytes 255, 255, 15; twenty marks back
-pub record RowE : Type 0 where
-  pub answered : numbers givensE (callsE ++ place 5 5 5 ∷ Undo ∷ []) ≡ replicate 22 0
-  pub mask : slotPart (played givensE (callsE ++ place 5 5 5 ∷ []) .journal) 21 ≡ 2 ∷ 5 ∷ 5 ∷ 5 ∷ 0 ∷ 255 ∷ 255 ∷ 15 ∷ []
-  pub struck : notesAround (played givensE (callsE ++ place 5 5 5 ∷ [])) ≡ replicate 20 0
-  pub back : notesAround (played givensE (callsE ++ place 5 5 5 ∷ Undo ∷ [])) ≡ replicate 20 32
+pub record RowE (s : Session) : Type 0 where
+  pub answered : numbers s (callsE ++ place 5 5 5 ∷ Undo ∷ []) ≡ replicate 22 0
+  pub mask : slotPart (after s (callsE ++ place 5 5 5 ∷ []) .journal) 21 ≡ 2 ∷ 5 ∷ 5 ∷ 5 ∷ 0 ∷ 255 ∷ 255 ∷ 15 ∷ []
+  pub struck : notesAround (after s (callsE ++ place 5 5 5 ∷ [])) ≡ replicate 20 0
+  pub back : notesAround (after s (callsE ++ place 5 5 5 ∷ Undo ∷ [])) ≡ replicate 20 32
 
 -- f | E: place (1,1) 5, write mark (1,2) 3, undo, check (1,1), write | 2 1 1 5 4 1 2 3 6 1 0 7 1 0 1 1 5
-pub record RowF : Type 0 where
-  pub answered : numbers givensE callsF ≡ 0 ∷ 0 ∷ 0 ∷ 0 ∷ []
-  pub written : write (played givensE callsF) ≡ wrote accepted 17 (over (replicate recordBytes 0) 0 recordF)
+pub record RowF (s : Session) : Type 0 where
+  pub answered : numbers s callsF ≡ 0 ∷ 0 ∷ 0 ∷ 0 ∷ []
+  pub written : write (after s callsF) ≡ wrote accepted 17 (over (replicate recordBytes 0) 0 recordF)
 
 -- g | E: reopen 6 0 0; reopen no bytes | fresh board; 17 at 1
 pub record RowG : Type 0 where
@@ -175,25 +178,26 @@ pub record RowJ : Type 0 where
   pub then-7 : reopening (recordL (2 ∷ 9 ∷ 9 ∷ 8 ∷ 2 ∷ 9 ∷ 9 ∷ 7 ∷ 6 ∷ 0 ∷ 0 ∷ [])) ≡ refusal 28 2 0
 
 -- k | E: write and strike mark 1 at (1,1) in turn, 1,024 moves, then write it again; undo, strike it | 15; accepted
-pub record RowK : Type 0 where
-  pub answered : numbers givensE (inTurn 512 ++ writeMark 1 1 1 ∷ Undo ∷ strikeMark 1 1 1 ∷ []) ≡ replicate 1024 0 ++ 15 ∷ 0 ∷ 0 ∷ []
+pub record RowK (s : Session) : Type 0 where
+  pub answered : numbers s (inTurn 512 ++ writeMark 1 1 1 ∷ Undo ∷ strikeMark 1 1 1 ∷ []) ≡ replicate 1024 0 ++ 15 ∷ 0 ∷ 0 ∷ []
 
 -- l | 80 givens of G; all 81 with a zero solution | opens; 22
 pub record RowL : Type 0 where
   pub eighty : openG (givensFrom 80 1) ≡ openedFresh (triples (givensFrom 80 1)) solutionG
   pub all : openOf (givensFrom 81 1) (replicate 81 0) noMoves noChecks .answer .refusal ≡ refusal 22 0 0
 
+-- rows a to f and k are played from the opening of E or L
 pub record Positions : Type 0 where
   pub openings : Openings
-  pub a : RowA
-  pub b : RowB
-  pub c : RowC
-  pub d : RowD
-  pub e : RowE
-  pub f : RowF
+  pub a : RowA L
+  pub b : RowB L
+  pub c : RowC E
+  pub d : RowD E
+  pub e : RowE E
+  pub f : RowF E
   pub g : RowG
   pub h : RowH
   pub i : RowI
   pub j : RowJ
-  pub k : RowK
+  pub k : RowK E
   pub l : RowL
