@@ -1,8 +1,8 @@
 -- What the calls give where they are refused and where they are accepted, and what an accepted call has passed: where its slot or its check goes, the memory has room.
 -- Assumes nothing.
 use Prim.Native.Nat.{ℕ, _+_, _-_, _*_, _≤_, _<_}
-use mathlib.Core.Path.{_≡_, refl, sym, ap, _∙_}
-use mathlib.Core.Bool.{Bool, true, false, not}
+use mathlib.Core.Path.{_≡_, sym, ap, _∙_}
+use mathlib.Core.Bool.{true, false, not}
 use mathlib.Core.List.{List, [], _∷_, _++_}
 use native.Mathlib.Omega.{arith}
 use borrow.Author.Tests.{eqb-true, eqb-false, leb-true, leb-false, eq-eqb, ne-eqb, not-false}
@@ -18,10 +18,10 @@ use Rattle.journal.specs.StoredChecks.{storedBytes}
 use Rattle.board.specs.declared.Board.{Board}
 use Rattle.board.specs.Board.{stateOf, isBoard}
 use Rattle.board.specs.Open.{answer}
-use Rattle.play.specs.Play.{Played, played, moveTests, lentBy, lentNumber, lentTests, callTests, recordMove, playOf, slotRefusal, undoTests, undone, undoOf, redoTests, redone, redoOf, latestNumber, latestPart, nextNumber, nextPart}
-use Rattle.play.specs.Check.{CheckPlayed, checked, checkTests, checkOn, withCheck, checkOf}
+use Rattle.play.specs.Play.{played, moveTests, lentBy, lentNumber, lentTests, callTests, recordMove, playOf, slotRefusal, undoTests, undone, undoOf, redoTests, redone, redoOf, latestNumber, latestPart, nextNumber, nextPart}
+use Rattle.play.specs.Check.{checked, checkTests, checkOn, withCheck, checkOf}
 use Rattle.journal.specs.Slots.{slotAt, slotPart, slotStart}
-use Rattle.play.proofs.Joined.{Numbered, moves-numbered, join-last}
+use Rattle.play.proofs.Joined.{moves-numbered, join-last}
 
 -- ---- the counts of a board value that number 2 does not refuse
 

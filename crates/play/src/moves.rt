@@ -25,7 +25,7 @@ ghost use Rattle.journal.specs.Limits.{slotBytes};
 ghost use Rattle.journal.specs.Bytes.{laid};
 ghost use Rattle.journal.specs.State.{putDigit, withNotes, strikeAll, strikeAt, writeAt, perform as performOf};
 ghost use Rattle.journal.specs.Slots.{slotFor, bytesOf};
-ghost use Rattle.board.specs.Board.{stateOf, countsOf, boardOf, moved};
+ghost use Rattle.board.specs.Board.{stateOf, countsOf, moved};
 ghost use Rattle.play.specs.Play.{recordMove, playOf, placeOf, eraseOf, writeMarkOf, strikeMarkOf};
 
 // The digits with one put at a cell; where the grid has no such cell they stay as they are.
