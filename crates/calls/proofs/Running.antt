@@ -1,0 +1,106 @@
+-- The laws of a run: what each kind of call leaves, bytes that encode no call, one group more, and none left.
+-- Assumes nothing.
+use Prim.Native.Nat.{ℕ, zero, suc, _+_, _-_, _*_, _≤_, _<_}
+use mathlib.Core.Path.{_≡_, refl, sym, ap, _∙_}
+use mathlib.Core.Bool.{Bool, false}
+use mathlib.Core.List.{List, [], _∷_, _++_}
+use native.Mathlib.Nat.{sub-eq-zero-of-le}
+use native.Mathlib.Numerals.{add-one}
+use native.Mathlib.Omega.{arith}
+use borrow.Author.Tests.{ne-eqb}
+use lib.Dec.{eqb}
+use lib.ListN.{length}
+use Rattle.sudoku.specs.Tests.{pick, listed}
+use Rattle.sudoku.proofs.Walks.{left-one}
+use Rattle.journal.specs.declared.Move.{Move}
+use Rattle.journal.specs.Bytes.{over}
+use Rattle.journal.proofs.Memory.{over-nil, over-join}
+use Rattle.board.specs.declared.Board.{Board}
+use Rattle.board.specs.declared.Answer.{Answer}
+use Rattle.board.specs.declared.Checked.{Checked}
+use Rattle.play.specs.Play.{playOf, undoOf, redoOf}
+use Rattle.play.specs.Check.{checkOf}
+use Rattle.calls.specs.declared.Call.{Call}
+use Rattle.calls.specs.declared.Call.the-variants.{Make, Undo, Redo, Check}
+use Rattle.calls.specs.declared.Decoded.{Decoded}
+use Rattle.calls.specs.declared.Decoded.the-variants.{Nothing}
+use Rattle.calls.specs.Session.{Session, Said, Called, called, callOf}
+use Rattle.calls.specs.Encoded.{callBytes, session, said, judged, leaves, decode, decodeAt, runOne, leftBy, saidTo, answerBytes, answersBytes, Ran, ran, runAt, runFrom}
+
+-- ---- what a call leaves
+
+module _ (b : Board) (journal checks : List ℕ) (a : Answer) (r : Checked) (unjudged : r ≡ judged (a .refusal) false (a .board)) where
+  pub makes : (m : Move) (after : List ℕ) → (a ≡ playOf b journal m .answer) × (after ≡ playOf b journal m .journal)
+      → leaves r after checks ≡ callOf (session b journal checks) (Make m)
+  unfolding callOf called
+  makes m after p =
+      ap (λ (x : Checked). leaves x after checks) unjudged ∙ (λ i. called (p .0 i .refusal) false (p .0 i .board) (p .1 i) checks)
+
+  pub undoes : a ≡ undoOf b journal → leaves r journal checks ≡ callOf (session b journal checks) Undo
+  unfolding callOf called
+  undoes p = ap (λ (x : Checked). leaves x journal checks) unjudged ∙ (λ i. called (p i .refusal) false (p i .board) journal checks)
+
+  pub redoes : a ≡ redoOf b journal → leaves r journal checks ≡ callOf (session b journal checks) Redo
+  unfolding callOf called
+  redoes p = ap (λ (x : Checked). leaves x journal checks) unjudged ∙ (λ i. called (p i .refusal) false (p i .board) journal checks)
+
+pub checks-it : (b : Board) (journal checks : List ℕ) (row column : ℕ) (r : Checked) (after : List ℕ)
+    → (r ≡ checkOf b checks row column .answer) × (after ≡ checkOf b checks row column .checks)
+    → leaves r journal after ≡ callOf (session b journal checks) (Check row column)
+unfolding callOf called
+checks-it b journal checks row column r after p = λ i. leaves (p .0 i) journal (p .1 i)
+
+-- ---- bytes that encode no call
+
+pub no-call : (kind row column digit : ℕ) → (kind ≡ 2 → ⊥) → (kind ≡ 3 → ⊥) → (kind ≡ 4 → ⊥) → (kind ≡ 5 → ⊥) → (kind ≡ 6 → ⊥) → (kind ≡ 7 → ⊥) → (kind ≡ 8 → ⊥)
+    → decode kind row column digit ≡ Nothing
+unfolding decode pick
+no-call kind row column digit a b c d e f g =
+    rw (ne-eqb kind 2 a, ne-eqb kind 3 b, ne-eqb kind 4 c, ne-eqb kind 5 d, ne-eqb kind 6 e, ne-eqb kind 7 f, ne-eqb kind 8 g)
+
+-- ---- one group more, and none left
+
+-- a group run, and answered in its place
+pub runs-one : (calls answers : List ℕ) (s : Session) (i : ℕ) (d : Decoded) (r : Checked) (journal checks after : List ℕ)
+    → d ≡ decodeAt calls i → leaves r journal checks ≡ runOne s d → after ≡ over answers (callBytes * i) (answerBytes (said (r .refusal) (r .right)))
+    → ran (session (r .board) journal checks) after ≡ runAt calls s answers i
+unfolding runAt called
+runs-one calls answers s i d r journal checks after p q w =
+    ap (λ (l : List ℕ). ran (session (r .board) journal checks) l) w
+    ∙ ap (λ (c : Called). ran (c .left) (over answers (callBytes * i) (answerBytes (c .said)))) (q ∙ ap (λ (x : Decoded). runOne s x) p)
+
+-- four bytes for each group
+pub length-answers : (calls : List ℕ) (s : Session) (n i : ℕ) → length (answersBytes (saidTo s (listed (decodeAt calls) n i))) ≡ callBytes * n
+unfolding answersBytes answerBytes saidTo listed
+length-answers calls s zero i = refl
+length-answers calls s (suc n) i = omega (arith, length-answers calls (runOne s (decodeAt calls i) .left) n (suc i))
+
+-- an answer and those behind it
+answered : (answers : List ℕ) (i : ℕ) (a : Said) (more : List ℕ) → callBytes * i + callBytes + length more ≤ length answers
+    → over answers (callBytes * i) (answerBytes a ++ more) ≡ over (over answers (callBytes * i) (answerBytes a)) (callBytes * suc i) more
+unfolding answerBytes
+answered answers i a more h =
+    sym (over-join answers (callBytes * i) (answerBytes a) (omega arith) more (omega arith))
+    ∙ ap (λ (k : ℕ). over (over answers (callBytes * i) (answerBytes a)) k more) {x = callBytes * i + 4} {y = callBytes * suc i} (omega arith)
+
+module _ (calls : List ℕ) (s : Session) (answers : List ℕ) where
+  run-suc : (n i : ℕ) → callBytes * i + callBytes * suc n ≤ length answers
+      → runFrom calls s answers (suc n) i ≡ runFrom calls (runAt calls s answers i .left) (runAt calls s answers i .answers) n (suc i)
+  unfolding runFrom runAt leftBy saidTo listed answersBytes
+  run-suc n i h =
+      λ j.
+      ran (leftBy (runOne s (decodeAt calls i) .left) (listed (decodeAt calls) n (suc i)))
+      (answered answers i (runOne s (decodeAt calls i) .said) (answersBytes (saidTo (runOne s (decodeAt calls i) .left) (listed (decodeAt calls) n (suc i))))
+      (omega (arith, length-answers calls (runOne s (decodeAt calls i) .left) n (suc i))) j)
+
+  pub run-more : (x : Ran) (e i : ℕ) → x ≡ runAt calls s answers i → i < e → callBytes * e ≤ length answers
+      → runFrom calls s answers (e - i) i ≡ runFrom calls (x .left) (x .answers) (e - (i + 1)) (i + 1)
+  run-more x e i p h room =
+      ap (λ (n : ℕ). runFrom calls s answers n i) (left-one e i h)
+      ∙ run-suc (e - (i + 1)) i (omega arith)
+      ∙ ap (λ (k : ℕ). runFrom calls (runAt calls s answers i .left) (runAt calls s answers i .answers) (e - (i + 1)) k) (sym (add-one i))
+      ∙ ap (λ (y : Ran). runFrom calls (y .left) (y .answers) (e - (i + 1)) (i + 1)) (sym p)
+
+  pub run-all : (e i : ℕ) → e ≤ i → runFrom calls s answers (e - i) i ≡ ran s answers
+  unfolding runFrom leftBy saidTo listed answersBytes
+  run-all e i h = ap (λ (n : ℕ). runFrom calls s answers n i) (sub-eq-zero-of-le h) ∙ (λ j. ran s (over-nil answers (callBytes * i) j))
