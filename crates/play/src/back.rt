@@ -20,8 +20,8 @@ use journal::slots::digit_change;
 use journal::slots::is_sound;
 use journal::slots::move_of;
 use journal::slots::slot_at;
-use journal::steps::retaken;
-use journal::steps::taken_back;
+use journal::steps::after_retake;
+use journal::steps::after_take_back;
 use puzzle::Refusal;
 use puzzle::answer::accepted;
 use puzzle::answer::refusal;
@@ -229,7 +229,7 @@ fn redo_refusal(board: Board, journal: &[u8]) -> Refusal
 fn undone(board: Board, slot: Slot) -> Board
     ensures { λ r. ⌜ r ≡ undoneOf board slot ⌝ }
 {
-    let counts = taken_back(Counts {
+    let counts = after_take_back(Counts {
         made: board.made,
         standing: board.standing,
     });
@@ -242,7 +242,7 @@ fn undone(board: Board, slot: Slot) -> Board
 fn redone(board: Board, slot: Slot) -> Board
     ensures { λ r. ⌜ r ≡ redoneOf board slot ⌝ }
 {
-    let counts = retaken(Counts {
+    let counts = after_retake(Counts {
         made: board.made,
         standing: board.standing,
     });

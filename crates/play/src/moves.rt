@@ -10,7 +10,7 @@ use journal::notes::strike_all;
 use journal::notes::strike_at;
 use journal::notes::write_at;
 use journal::slots::write_slot;
-use journal::steps::recorded;
+use journal::steps::after_record;
 use puzzle::answer::accepted;
 use puzzle::answer::refusal;
 use puzzle::digit_at;
@@ -168,7 +168,7 @@ pub fn record_move(board: Board, journal: &mut [u8], m: Move) -> Board
     let slot = slot_for(board, m);
     let standing = board.standing;
     write_slot(journal, standing, slot);
-    let counts = recorded(Counts {
+    let counts = after_record(Counts {
         made: board.made,
         standing: standing,
     });

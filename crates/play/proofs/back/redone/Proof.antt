@@ -10,8 +10,8 @@ use borrow.Author.Needs.{needs}
 use Rattle.play.proofs.back.redone.Statement.{statement}
 use Rattle.play.proofs.back.redone.Tie as tie
 
-retaken-requires : tie.Need-retaken-requires
-retaken-requires c κs = search needs
+after-retake-requires : tie.Need-after-retake-requires
+after-retake-requires c κs = search needs
 
 digit-again-requires : tie.Need-digit-again-requires
 digit-again-requires c κs = search needs
@@ -29,8 +29,8 @@ returns : tie.Need-returns
 unfolding redone moved boardOf stateOf countsOf
 returns c =
     let a = c .before .before .before .before .before .args in
-    rw (c .counted .ensures, c .before .marks-again .ensures, c .before .before .before .digit-again .ensures, c .before .before .move-of .ensures, c .before .before .before .before .retaken .ensures)
+    rw (c .counted .ensures, c .before .marks-again .ensures, c .before .before .before .digit-again .ensures, c .before .before .move-of .ensures, c .before .before .before .before .after-retake .ensures)
     (ap (λ (s : State). moved (a .board) s (retaken (countsOf (a .board)))) (again-halves (stateOf (a .board)) (a .slot)))
 
 pub redone-spec : {M : Type 1} → statement M
-redone-spec = tie.close (tie.spec retaken-requires digit-again-requires move-of-requires marks-again-requires counted-requires returns)
+redone-spec = tie.close (tie.spec after-retake-requires digit-again-requires move-of-requires marks-again-requires counted-requires returns)

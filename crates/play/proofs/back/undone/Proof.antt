@@ -10,8 +10,8 @@ use borrow.Author.Needs.{needs}
 use Rattle.play.proofs.back.undone.Statement.{statement}
 use Rattle.play.proofs.back.undone.Tie as tie
 
-taken-back-requires : tie.Need-taken-back-requires
-taken-back-requires c κs = search needs
+after-take-back-requires : tie.Need-after-take-back-requires
+after-take-back-requires c κs = search needs
 
 digit-back-requires : tie.Need-digit-back-requires
 digit-back-requires c κs = search needs
@@ -29,8 +29,8 @@ returns : tie.Need-returns
 unfolding undone moved boardOf stateOf countsOf
 returns c =
     let a = c .before .before .before .before .before .args in
-    rw (c .counted .ensures, c .before .marks-back .ensures, c .before .before .before .digit-back .ensures, c .before .before .move-of .ensures, c .before .before .before .before .taken-back .ensures)
+    rw (c .counted .ensures, c .before .marks-back .ensures, c .before .before .before .digit-back .ensures, c .before .before .move-of .ensures, c .before .before .before .before .after-take-back .ensures)
     (ap (λ (s : State). moved (a .board) s (takenBack (countsOf (a .board)))) (back-halves (stateOf (a .board)) (a .slot)))
 
 pub undone-spec : {M : Type 1} → statement M
-undone-spec = tie.close (tie.spec taken-back-requires digit-back-requires move-of-requires marks-back-requires counted-requires returns)
+undone-spec = tie.close (tie.spec after-take-back-requires digit-back-requires move-of-requires marks-back-requires counted-requires returns)

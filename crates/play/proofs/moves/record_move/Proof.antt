@@ -13,8 +13,8 @@ slot-for-requires c κs = search needs
 write-slot-requires : tie.Need-write-slot-requires
 write-slot-requires c κs = search needs
 
-recorded-requires : tie.Need-recorded-requires
-recorded-requires c κs = search needs
+after-record-requires : tie.Need-after-record-requires
+after-record-requires c κs = search needs
 
 perform-requires : tie.Need-perform-requires
 perform-requires c κs = search needs
@@ -28,9 +28,9 @@ same-length c = search needs
 returns : tie.Need-returns
 unfolding recordMove moved boardOf stateOf countsOf
 returns c = (
-  rw (c .counted .ensures, c .before .perform .ensures, c .before .before .recorded .ensures),
+  rw (c .counted .ensures, c .before .perform .ensures, c .before .before .after-record .ensures),
   rw (c .before .before .before .before .before .before .before .slot-for .ensures) at (c .before .before .before .before .before .write-slot .ensures),
 )
 
 pub record-move-spec : {M : Type 1} → statement M
-record-move-spec = tie.close (tie.spec slot-for-requires write-slot-requires recorded-requires perform-requires counted-requires same-length returns)
+record-move-spec = tie.close (tie.spec slot-for-requires write-slot-requires after-record-requires perform-requires counted-requires same-length returns)
