@@ -6,3 +6,4 @@ pub mod checks;
 pub mod moves;
 pub mod numbers;
 pub mod shown;
+pub mod sound;
