@@ -46,6 +46,24 @@ unfoldable pub decodeAt : List ℕ → ℕ → Decoded
 decodeAt bytes i =
     decode (getD bytes (callBytes * i) 0) (getD bytes (callBytes * i + 1) 0) (getD bytes (callBytes * i + 2) 0) (getD bytes (callBytes * i + 3) 0)
 
+-- what all whole groups encode
+unfoldable pub decoded : List ℕ → List Decoded
+decoded bytes = listed (decodeAt bytes) (length bytes / callBytes) 0
+
+-- a call's four bytes, 0 where its kind uses none, and those of a list of calls
+unfoldable pub encode : Call → List ℕ
+encode (Make (Place row column digit)) = 2 ∷ row ∷ column ∷ digit ∷ []
+encode (Make (Erase row column)) = 3 ∷ row ∷ column ∷ 0 ∷ []
+encode (Make (WriteMark row column digit)) = 4 ∷ row ∷ column ∷ digit ∷ []
+encode (Make (StrikeMark row column digit)) = 5 ∷ row ∷ column ∷ digit ∷ []
+encode Undo = 6 ∷ 0 ∷ 0 ∷ 0 ∷ []
+encode Redo = 8 ∷ 0 ∷ 0 ∷ 0 ∷ []
+encode (Check row column) = 7 ∷ row ∷ column ∷ 0 ∷ []
+
+unfoldable pub encoded : List Call → List ℕ
+encoded [] = []
+encoded (c ∷ cs) = encode c ++ encoded cs
+
 -- how many calls are run
 unfoldable pub groups : ℕ → ℕ → ℕ
 groups calls answers = min (calls / callBytes) (answers / callBytes)

@@ -5,6 +5,8 @@ pub mod run;
 
 // Bytes of an encoded call, and of its answer.
 pub const CALL_BYTES: usize = 4;
+// The number that answers bytes that encode no call.
+pub const NO_CALL: u8 = 255;
 
 // A play call.
 pub enum Call {

@@ -2,6 +2,7 @@
 use crate::CALL_BYTES;
 use crate::Call;
 use crate::Decoded;
+use crate::NO_CALL;
 use board::Answer;
 use board::Board;
 use board::Checked;
@@ -69,7 +70,7 @@ fn decode(kind: u8, row: u8, column: u8, digit: u8) -> Decoded
 
 // What group i of four bytes encodes.
 fn decode_at(calls: &[u8], i: usize) -> Decoded
-    requires { ⌜ i < length (now calls) / 4 ⌝ }
+    requires { ⌜ i < length (now calls) / callBytes ⌝ }
     ensures { λ r. ⌜ r ≡ decodeAt (now (calls .entry)) i ⌝ }
 {
     let start = CALL_BYTES * i;
@@ -110,7 +111,7 @@ fn run_one(board: Board, journal: &mut [u8], checks: &mut [u8], d: Decoded) -> C
 {
     let Decoded::Of(c) = d else {
         return Checked {
-            refusal: refusal(255, 0, 0),
+            refusal: refusal(NO_CALL, 0, 0),
             right: false,
             board: board,
         };
@@ -130,7 +131,7 @@ fn verdict(right: bool) -> u8
 
 // Writes an answer behind `index` others.
 fn write_answer(answers: &mut [u8], index: usize, r: Refusal, right: bool)
-    requires { ⌜ index < length (now answers) / 4 ⌝ }
+    requires { ⌜ index < length (now answers) / callBytes ⌝ }
     ensures { λ _. ⌜ now (answers .exit) ≡ over (now (answers .entry)) (callBytes * index) (answerBytes (said r right)) ⌝ }
 {
     let start = CALL_BYTES * index;
@@ -149,7 +150,7 @@ fn one_call(
     answers: &mut [u8],
     i: usize,
 ) -> Board
-    requires { ⌜ (i < length (now calls) / 4) × (i < length (now answers) / 4) ⌝ }
+    requires { ⌜ (i < length (now calls) / callBytes) × (i < length (now answers) / callBytes) ⌝ }
     ensures { λ r. ⌜ ran (session r (now (journal .exit)) (now (checks .exit))) (now (answers .exit)) ≡ runAt (now (calls .entry)) (session board (now (journal .entry)) (now (checks .entry))) (now (answers .entry)) i ⌝ }
 {
     let answer = run_one(board, journal, checks, decode_at(calls, i));
@@ -161,7 +162,7 @@ fn one_call(
 
 // How many calls are run: as many as there are whole groups of four in both.
 fn groups(calls: usize, answers: usize) -> usize
-    ensures { λ r. ⌜ (r ≡ groupsOf calls answers) × (r ≤ calls / 4) × (r ≤ answers / 4) ⌝ }
+    ensures { λ r. ⌜ (r ≡ groupsOf calls answers) × (r ≤ calls / callBytes) × (r ≤ answers / callBytes) ⌝ }
 {
     let asked = calls / CALL_BYTES;
     let room = answers / CALL_BYTES;

@@ -23,3 +23,4 @@ pub mod CallsFor
 pub mod Accepting
 pub mod Demand3
 pub mod Solved
+pub mod PlayTheorem

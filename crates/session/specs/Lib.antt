@@ -3,3 +3,4 @@ pub mod Opens
 pub mod Demand3
 pub mod Solved
 pub mod Positions
+pub mod PlayTheorem
