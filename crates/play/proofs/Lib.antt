@@ -1,3 +1,4 @@
 pub mod Joined
 pub mod Halves
 pub mod Accepted
+pub mod Slots
