@@ -4,7 +4,6 @@ use Prim.Native.Nat.{ℕ, zero, suc, _+_, _*_, _/_, _≤_}
 use mathlib.Core.Path.{_≡_, refl, sym, ap, _∙_}
 use mathlib.Core.List.{List, [], _∷_, _++_, map}
 use native.Mathlib.Omega.{arith}
-use lib.Dec.{eqb}
 use lib.ListN.{length, getD, length-map}
 use Rattle.sudoku.specs.Tests.{pick, listed}
 use Rattle.sudoku.proofs.Listed.{length-listed}
@@ -14,8 +13,8 @@ use Rattle.calls.specs.declared.Call.{Call}
 use Rattle.calls.specs.declared.Call.the-variants.{Make, Undo, Redo, Check}
 use Rattle.calls.specs.declared.Decoded.{Decoded}
 use Rattle.calls.specs.declared.Decoded.the-variants.{Of}
-use Rattle.calls.specs.Session.{Session, Said, callOf, after, answers}
-use Rattle.calls.specs.Encoded.{callBytes, decode, decodeAt, decoded, encode, encoded, groups, runOne, leftBy, saidTo, answersBytes, Ran, ran, runFrom, runOf}
+use Rattle.calls.specs.Session.{Session, callOf, after, answers}
+use Rattle.calls.specs.Encoded.{callBytes, decode, decodeAt, decoded, encode, encoded, groups, runOne, leftBy, saidTo, answersBytes, ran, runFrom, runOf}
 
 -- ---- groups that are all calls
 

@@ -2,13 +2,12 @@
 -- Assumes nothing.
 use Prim.Native.Nat.{ℕ, zero, suc, _+_, _-_, _*_, _≤_, _<_}
 use mathlib.Core.Path.{_≡_, refl, sym, ap, _∙_}
-use mathlib.Core.Bool.{Bool, false}
-use mathlib.Core.List.{List, [], _∷_, _++_}
+use mathlib.Core.Bool.{false}
+use mathlib.Core.List.{List, _++_}
 use native.Mathlib.Nat.{sub-eq-zero-of-le}
 use native.Mathlib.Numerals.{add-one}
 use native.Mathlib.Omega.{arith}
 use borrow.Author.Tests.{ne-eqb}
-use lib.Dec.{eqb}
 use lib.ListN.{length}
 use Rattle.sudoku.specs.Tests.{pick, listed}
 use Rattle.sudoku.proofs.Walks.{left-one}
@@ -20,7 +19,6 @@ use Rattle.board.specs.declared.Answer.{Answer}
 use Rattle.board.specs.declared.Checked.{Checked}
 use Rattle.play.specs.Play.{playOf, undoOf, redoOf}
 use Rattle.play.specs.Check.{checkOf}
-use Rattle.calls.specs.declared.Call.{Call}
 use Rattle.calls.specs.declared.Call.the-variants.{Make, Undo, Redo, Check}
 use Rattle.calls.specs.declared.Decoded.{Decoded}
 use Rattle.calls.specs.declared.Decoded.the-variants.{Nothing}

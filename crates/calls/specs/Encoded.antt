@@ -13,7 +13,6 @@ use lib.ListN.{length, getD}
 use Rattle.sudoku.specs.Tests.{pick, bit, listed}
 use Rattle.puzzle.specs.declared.Refusal.{Refusal}
 use Rattle.puzzle.specs.Refusals.{refusal}
-use Rattle.journal.specs.declared.Move.{Move}
 use Rattle.journal.specs.declared.Move.the-variants.{Place, Erase, WriteMark, StrikeMark}
 use Rattle.journal.specs.Bytes.{over, low, second}
 use Rattle.board.specs.declared.Board.{Board}

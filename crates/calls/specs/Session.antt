@@ -5,7 +5,6 @@ use Prim.Native.Nat.{ℕ}
 use mathlib.Core.Bool.{Bool, false}
 use mathlib.Core.List.{List, [], _∷_}
 use Rattle.puzzle.specs.declared.Refusal.{Refusal}
-use Rattle.journal.specs.declared.Move.{Move}
 use Rattle.board.specs.declared.Board.{Board}
 use Rattle.board.specs.Open.{Opened}
 use Rattle.play.specs.Play.{playOf, undoOf, redoOf}

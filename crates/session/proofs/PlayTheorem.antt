@@ -2,7 +2,6 @@
 -- Assumes nothing.
 use mathlib.Core.Path.{sym, ap, subst, _∙_}
 use mathlib.Core.List.{List}
-use Prim.Native.Nat.{ℕ}
 use Rattle.journal.specs.Bytes.{over}
 use Rattle.board.specs.Open.{openedFresh}
 use Rattle.calls.specs.Session.{Said, started}

@@ -1,7 +1,7 @@
 -- `calls::run::play` meets its contract: what is left of the run is run from what the last call left.
 -- Assumes nothing.
 use Prim.Native.Nat.{_≤_, _-_}
-use mathlib.Core.Path.{_≡_, refl, sym, ap, _∙_}
+use mathlib.Core.Path.{_≡_, refl, sym, _∙_}
 use native.Mathlib.Nat.{sub-zero}
 use native.Mathlib.Omega.{arith}
 use lib.ListN.{length}

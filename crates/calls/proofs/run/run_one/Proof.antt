@@ -1,6 +1,5 @@
 -- `calls::run::run_one` meets its contract.
 -- Assumes nothing.
-use Rattle.calls.specs.Session.{called}
 use Rattle.calls.specs.Encoded.{runOne}
 use borrow.Author.Needs.{needs}
 use Rattle.calls.proofs.run.run_one.Statement.{statement}
