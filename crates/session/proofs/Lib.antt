@@ -24,3 +24,4 @@ pub mod Accepting
 pub mod Demand3
 pub mod Solved
 pub mod PlayTheorem
+pub mod Readings

@@ -4,3 +4,4 @@ pub mod Demand3
 pub mod Solved
 pub mod Positions
 pub mod PlayTheorem
+pub mod Readings
