@@ -84,7 +84,7 @@ unfolding bit
 one-of true = refl
 one-of false = refl
 
-count-not : (f : ℕ → Bool) (n i : ℕ) → count (λ k. not (f k)) n i + count f n i ≡ n
+pub count-not : (f : ℕ → Bool) (n i : ℕ) → count (λ k. not (f k)) n i + count f n i ≡ n
 unfolding count
 count-not f zero i = refl
 count-not f (suc n) i = omega (arith, count-not f n (suc i), one-of (f i))

@@ -176,15 +176,12 @@ module _ (at next : ℕ) where
       ap (readOf at) (other-kind k _ _ _ _ _ _ _ _ o)
       ∙ ap (λ (s : Shape). itemOf (k ∷ l) 0 next (s .group)) (sym (other-kind k _ _ _ _ _ _ _ _ o)))
 
--- the item of a group in the bytes from an offset on
-item-shift : (bytes : List ℕ) (at next : ℕ) (group : Group) → itemOf (drop at bytes) 0 next group ≡ itemOf bytes at next group
-unfolding itemOf moveAt
-item-shift bytes at next Givens = λ j. Whole (Given (getD-drop at bytes 1 0 j) (getD-drop at bytes 2 0 j) (getD-drop at bytes 3 0 j)) next
-item-shift bytes at next Moves =
+-- what stands in the bytes from an offset on
+pub move-shift : (bytes : List ℕ) (at : ℕ) → moveAt (drop at bytes) 0 ≡ moveAt bytes at
+unfolding moveAt
+move-shift bytes at =
     λ j.
-    Whole
-    (Played
-    (moveOf
+    moveOf
     (record {
       kind = (getD-drop at bytes 0 0 ∙ ap (λ (i : ℕ). getD bytes i 0) (add-zero at)) j;
       row = getD-drop at bytes 1 0 j;
@@ -192,8 +189,24 @@ item-shift bytes at next Moves =
       digit = getD-drop at bytes 3 0 j;
       before = 0;
       struck = 0;
-    })))
-    next
+    })
+
+pub ask-shift : (bytes : List ℕ) (at : ℕ) → askedFrom (drop at bytes) 0 ≡ askedFrom bytes at
+unfolding askedFrom
+ask-shift bytes at =
+    λ j.
+    record {
+      standing = two (getD-drop at bytes 1 0 j) (getD-drop at bytes 2 0 j);
+      row = getD-drop at bytes 3 0 j;
+      column = getD-drop at bytes 4 0 j;
+      digit = getD-drop at bytes 5 0 j;
+    }
+
+-- the item of a group in the bytes from an offset on
+item-shift : (bytes : List ℕ) (at next : ℕ) (group : Group) → itemOf (drop at bytes) 0 next group ≡ itemOf bytes at next group
+unfolding itemOf moveAt
+item-shift bytes at next Givens = λ j. Whole (Given (getD-drop at bytes 1 0 j) (getD-drop at bytes 2 0 j) (getD-drop at bytes 3 0 j)) next
+item-shift bytes at next Moves = ap (λ (m : Move). Whole (Played m) next) (move-shift bytes at)
 item-shift bytes at next Count = λ j. Whole (Undone (two (getD-drop at bytes 1 0 j) (getD-drop at bytes 2 0 j))) next
 item-shift bytes at next Checks =
     λ j.

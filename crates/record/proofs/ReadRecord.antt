@@ -51,6 +51,10 @@ givens-read bytes are h =
 abbrev pub countsOf : Parts → Scanned
 countsOf p = scanned accepted (length (p .givens)) (length (p .moves)) (p .undone) (length (p .checks)) (anyLate (p .checks))
 
+pub scan-formed : (bytes : List ℕ) → isAccepted (malformed bytes) ≡ true → scannedOf bytes ≡ countsOf (partsOfBytes bytes)
+unfolding scannedOf
+scan-formed bytes t = pick-true _ (countsOf (partsOfBytes bytes)) (refusedBy (malformed bytes)) t
+
 module _ (bytes solution : List ℕ) (s : Scanned) (e : s ≡ scannedOf bytes) where
   abbrev parts : Parts
   parts = partsOfBytes bytes
@@ -67,7 +71,7 @@ module _ (bytes solution : List ℕ) (s : Scanned) (e : s ≡ scannedOf bytes) w
   is-17 =
       ap (λ (x : Scanned). x .refusal) e
       ∙ by-test (isAccepted (malformed bytes))
-      (λ t. ap (λ (x : Scanned). x .refusal) (pick-true _ (countsOf parts) (refusedBy (malformed bytes)) t) ∙ sym (formed bytes t))
+      (λ t. ap (λ (x : Scanned). x .refusal) (scan-formed bytes t) ∙ sym (formed bytes t))
       (λ t. ap (λ (x : Scanned). x .refusal) (pick-false _ (countsOf parts) (refusedBy (malformed bytes)) t))
 
   pub refused-17 : (s .refusal .number ≡ 0 → ⊥) → s .refusal ≡ unreadable bytes solution
@@ -83,8 +87,7 @@ module _ (bytes solution : List ℕ) (s : Scanned) (e : s ≡ scannedOf bytes) w
     is-formed = formed bytes passed-17
 
     pub counts : s ≡ countsOf parts
-    unfolding scannedOf
-    counts = e ∙ pick-true _ (countsOf parts) (refusedBy (malformed bytes)) passed-17
+    counts = e ∙ scan-formed bytes passed-17
 
     past-17 : unreadable bytes solution ≡ orElse (oversized parts) from19
     unfolding unreadable

@@ -123,7 +123,7 @@ pub fn count_givens(given: &[bool; 81]) -> usize
 }
 
 // How many bytes a move's item has.
-fn move_length(m: Move) -> usize
+pub fn move_length(m: Move) -> usize
     ensures { λ r. ⌜ (r ≡ length (encode (Played m))) × (r ≤ 4) ⌝ }
 {
     match m {
