@@ -14,7 +14,6 @@ use Rattle.puzzle.specs.Refusals.{refusal, accepted, isAccepted, refusedIf, orE
 use Rattle.puzzle.proofs.Accepted.{if-not}
 use Rattle.puzzle.proofs.Refusals.{refused-if, or-else-refused, or-else-passed, or-else-by, or-else-past}
 use Rattle.board.specs.declared.Board.{Board}
-use Rattle.moves.specs.declared.Reading.{Reading}
 use Rattle.moves.specs.Reading.{readingRefusal, reading, noReading, readingOf}
 
 -- ---- 35

@@ -22,7 +22,7 @@ use Rattle.journal.specs.declared.Move.{Move}
 use Rattle.journal.specs.Limits.{journalBytes}
 use Rattle.journal.specs.State.{State, opening, isGiven, digitAt, perform, performAgain, struck}
 use Rattle.journal.specs.Slots.{slotFor, slotAt, moveOf}
-use Rattle.journal.proofs.Moves.{Fit, performed-again, move-kept}
+use Rattle.journal.proofs.Moves.{performed-again, move-kept}
 use Rattle.board.specs.Board.{stateOf, boardOf}
 use Rattle.moves.specs.declared.Reading.{Reading}
 use Rattle.moves.specs.Reading.{openingOf, applySlot, stateAfter, readingRefusal, reading, readingOf}
