@@ -9,7 +9,3 @@ pub mod Scanning
 pub mod ReadRecord
 pub mod Laying
 pub mod Writing
-pub mod PartsRead
-pub mod Replaying
-pub mod Checking
-pub mod Reopened

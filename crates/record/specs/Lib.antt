@@ -4,4 +4,3 @@ pub mod Scan
 pub mod Reopen
 pub mod Counting
 pub mod Laying
-pub mod Reopening

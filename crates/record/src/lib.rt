@@ -3,7 +3,6 @@ use journal::Move;
 use puzzle::Refusal;
 
 pub mod items;
-pub mod reopen;
 pub mod scan;
 pub mod write;
 

@@ -1,0 +1,4 @@
+pub mod PartsRead
+pub mod Replaying
+pub mod Checking
+pub mod Settling

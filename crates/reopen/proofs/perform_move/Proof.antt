@@ -1,0 +1,70 @@
+-- `reopen::perform_move` meets its contract: 28, 29, or the move recorded; its slot fits the journal.
+-- Assumes nothing.
+use Prim.Native.Nat.{_*_}
+use mathlib.Core.Path.{sym, ap, _∙_}
+use native.Mathlib.Omega.{arith}
+use Rattle.puzzle.specs.declared.Refusal.{Refusal}
+use Rattle.journal.specs.Slots.{slotFor, bytesOf}
+use Rattle.journal.proofs.Memory.{bytes-length}
+use Rattle.journal.proofs.Stores.{laid-over}
+use Rattle.board.specs.Board.{stateOf}
+use Rattle.board.specs.Open.{answer}
+use Rattle.play.specs.Play.{Played, recordMove}
+use Rattle.reopen.proofs.Replaying.{performed-28, performed-29, performed-on}
+use Rattle.reopen.proofs.perform_move.Statement.{statement}
+use Rattle.reopen.proofs.perform_move.Tie as tie
+use borrow.Author.Needs.{needs}
+
+refusal-requires : tie.Need-refusal-requires
+refusal-requires c κs = search needs
+
+returns : tie.Need-returns
+returns c =
+    let e = performed-28 (c .before .before .before .args .board) (c .before .before .before .args .journal .now) (c .before .before .before .args .k) (c .before .before .before .args .m) (c .before .if1 .taken) in
+    (ap (λ (r : Refusal). answer r (c .before .before .before .args .board)) (c .refusal .ensures) ∙ sym (ap (λ (x : Played). x .answer) e), sym (ap (λ (x : Played). x .journal) e))
+
+move-number-requires : tie.Need-move-number-requires
+move-number-requires c κs = search needs
+
+refusal-requires-2 : tie.Need-refusal-requires-2
+refusal-requires-2 c κs = search needs
+
+returns-2 : tie.Need-returns-2
+returns-2 c =
+    let e = performed-29 (c .before .before .before .before .before .args .board) (c .before .before .before .before .before .args .journal .now) (c .before .before .before .before .before .args .k) (c .before .before .before .before .before .args .m) (c .before .before .before .if1 .left) (c .before .before .move-number .result) (c .before .before .move-number .ensures) (c .before .if2 .taken) in
+    (ap (λ (r : Refusal). answer r (c .before .before .before .before .before .args .board)) (c .refusal2 .ensures) ∙ sym (ap (λ (x : Played). x .answer) e), sym (ap (λ (x : Played). x .journal) e))
+
+record-move-requires : tie.Need-record-move-requires
+record-move-requires c κs = search needs
+
+accepted-requires : tie.Need-accepted-requires
+accepted-requires c κs = search needs
+
+same-length : tie.Need-same-length
+same-length c = search needs
+
+returns-3 : tie.Need-returns-3
+unfolding recordMove
+returns-3 c =
+    let e = performed-on (c .before .before .before .before .before .before .before .before .before .args .board) (c .before .before .before .before .before .before .before .before .before .args .journal .now) (c .before .before .before .before .before .before .before .before .before .args .k) (c .before .before .before .before .before .before .before .before .before .args .m) (c .before .before .before .before .before .before .before .if1 .left) (c .before .before .before .before .before .before .move-number .result) (c .before .before .before .before .before .before .move-number .ensures) (c .before .before .before .before .before .if2 .left) in
+    let slot = bytesOf (slotFor (stateOf (c .before .before .before .before .before .before .before .before .before .args .board)) (c .before .before .before .before .before .before .before .before .before .args .m)) in (
+      (λ j. answer (c .accepted .ensures j) (c .before .before .before .record-move .ensures .0 j)) ∙ sym (ap (λ (x : Played). x .answer) e),
+      c .before .before .before .record-move .ensures .1
+          ∙ laid-over (c .before .before .before .before .before .before .before .before .before .args .journal .now) (8 * c .before .before .before .before .before .before .before .before .before .args .board .standing) slot
+          (omega (arith, bytes-length (slotFor (stateOf (c .before .before .before .before .before .before .before .before .before .args .board)) (c .before .before .before .before .before .before .before .before .before .args .m)), c .before .before .before .before .before .before .before .before .before .pre .0, c .before .before .before .before .before .before .before .before .before .pre .1))
+          ∙ sym (ap (λ (x : Played). x .journal) e),
+    )
+
+pub perform-move-spec : {M : Type 1} → statement M
+perform-move-spec =
+    tie.close
+    (tie.spec
+    refusal-requires
+    returns
+    move-number-requires
+    refusal-requires-2
+    returns-2
+    record-move-requires
+    accepted-requires
+    same-length
+    returns-3)
