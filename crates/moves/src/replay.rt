@@ -1,10 +1,10 @@
 // The board as it stood after slots 1 to k: its givens and empty notes, and then each slot applied as recorded. A place strikes the peers in its mask and no others.
+use back::digit_again;
+use back::marks_again;
 use board::Board;
 use journal::slots::is_given;
 use journal::slots::move_of;
 use journal::slots::slot_at;
-use play::back::digit_again;
-use play::back::marks_again;
 use puzzle::digit_at;
 use sudoku::CELLS;
 ghost use mathlib.Core.Path.{_≡_};

@@ -1,4 +1,3 @@
 pub mod Joined
-pub mod Halves
 pub mod Accepted
 pub mod Slots

@@ -1,3 +1,2 @@
 pub mod Play
-pub mod Halves
 pub mod Check

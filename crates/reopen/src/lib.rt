@@ -1,4 +1,5 @@
 // Reopening a record: the givens opened, all moves performed (28, 29), the undone ones taken back (30), then the checks (31 to 33).
+use back::undo;
 use board::Answer;
 use board::Board;
 use board::open::clear;
@@ -9,7 +10,6 @@ use board::open::zero_board;
 use journal::Move;
 use journal::checks::write_check;
 use journal::slots::is_given;
-use play::back::undo;
 use play::checks::is_right;
 use play::moves::record_move;
 use play::numbers::move_number;

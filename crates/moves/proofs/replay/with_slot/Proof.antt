@@ -2,7 +2,7 @@
 -- Assumes nothing.
 use Rattle.journal.specs.Slots.{slotAt}
 use Rattle.board.specs.Board.{stateOf, countsOf, boardOf, moved}
-use Rattle.play.proofs.Halves.{again-halves}
+use Rattle.back.proofs.Halves.{again-halves}
 use Rattle.moves.specs.Reading.{applySlot}
 use borrow.Author.Needs.{needs}
 use Rattle.moves.proofs.replay.with_slot.Statement.{statement}
