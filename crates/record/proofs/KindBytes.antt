@@ -3,7 +3,7 @@
 use Prim.Native.Nat.{ℕ, suc, _+_, _-_, _≤_, _<_}
 use mathlib.Core.Path.{_≡_, refl, sym, ap, subst, _∙_}
 use mathlib.Core.Logic.{⊎-elim}
-use mathlib.Core.Bool.{Bool, true, false}
+use mathlib.Core.Bool.{true, false}
 use mathlib.Core.List.{List, [], _∷_}
 use native.Mathlib.Nat.{eq-or-lt-of-le, add-zero}
 use native.Mathlib.Omega.{arith}
@@ -17,16 +17,14 @@ use Rattle.journal.specs.declared.Move.{Move}
 use Rattle.journal.specs.declared.Move.the-variants.{Place, Erase, WriteMark, StrikeMark}
 use Rattle.journal.specs.Bytes.{two}
 use Rattle.journal.specs.Slots.{moveOf}
-use Rattle.record.specs.declared.Asked.{Asked}
 use Rattle.record.specs.declared.Group.{Group}
 use Rattle.record.specs.declared.Group.the-variants.{Givens, Moves, Count, Checks, Malformed}
 use Rattle.record.specs.declared.Item.{Item}
 use Rattle.record.specs.declared.Item.the-variants.{Given, Played, Undone, Check}
-use Rattle.record.specs.declared.Read.{Read}
 use Rattle.record.specs.declared.Read.the-variants.{Whole, Nothing}
 use Rattle.record.specs.declared.Shape.{Shape}
 use Rattle.record.specs.Items.{encode}
-use Rattle.record.specs.Scan.{Taken, got, broken, takeItem, byKind, body2, body3, body5}
+use Rattle.record.specs.Scan.{broken, takeItem, byKind, body2, body3, body5}
 use Rattle.record.specs.Counting.{shape, shapeOf, taken, readOf, moveAt, askedFrom, itemOf}
 
 -- ---- cases over the kinds

@@ -9,7 +9,7 @@ use native.Mathlib.Numerals.{add-one}
 use native.Mathlib.Omega.{arith}
 use lib.ListN.{length, getD, length-append}
 use Rattle.sudoku.specs.Tests.{pick, keep, bit, count, listed}
-use Rattle.sudoku.specs.Grid.{at, rowOf, columnOf}
+use Rattle.sudoku.specs.Grid.{at}
 use Rattle.sudoku.proofs.Walks.{left-one}
 use Rattle.sudoku.proofs.Listed.{length-listed}
 use Rattle.puzzle.specs.declared.Given.{Given as Setters}

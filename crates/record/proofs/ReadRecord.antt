@@ -1,11 +1,10 @@
 -- Reading a record before any move is performed, from what a scan of it answers: which of 17 to 27 is given, and that the givens stand in the bytes as items.
 -- Assumes nothing.
-use Prim.Native.Nat.{ℕ, suc}
+use Prim.Native.Nat.{ℕ}
 use mathlib.Core.Path.{_≡_, refl, sym, ap, _∙_}
-use mathlib.Core.Bool.{Bool, true, false, not}
+use mathlib.Core.Bool.{true, false, not}
 use mathlib.Core.List.{List, [], _∷_, _++_, map}
 use borrow.Author.Tests.{eqb-false, eq-eqb, ne-eqb}
-use lib.Dec.{eqb}
 use lib.ListN.{length}
 use Rattle.sudoku.specs.Tests.{listed}
 use Rattle.sudoku.proofs.Walks.{by-test, not-is-true, not-is-false, pick-true, pick-false}
@@ -16,11 +15,11 @@ use Rattle.puzzle.specs.declared.Refusal.{Refusal}
 use Rattle.puzzle.specs.Refusals.{refusal, accepted, isAccepted, refusedIf, orElse}
 use Rattle.puzzle.specs.Givens.{givensAt, givensIn, ascending}
 use Rattle.puzzle.specs.Vouch.{vouch}
-use Rattle.puzzle.proofs.Accepted.{accepts, if-not}
+use Rattle.puzzle.proofs.Accepted.{if-not}
 use Rattle.puzzle.proofs.Refusals.{refused-if, or-else-by, or-else-passed, or-else-past}
 use Rattle.puzzle.proofs.GivenBytes.{item-next, in-items}
 use Rattle.record.specs.declared.Scanned.{Scanned}
-use Rattle.record.specs.Items.{Parts, encode, encodeAll, givenItem, recordOf}
+use Rattle.record.specs.Items.{Parts, encode, encodeAll, givenItem}
 use Rattle.record.specs.Scan.{malformed, partsOfBytes}
 use Rattle.record.specs.Reopen.{anyLate, oversized, miscounted, unreadable}
 use Rattle.record.specs.Counting.{scanned, refusedBy, scannedOf, isOversized, miscountedBy, readRecord}

@@ -1,6 +1,6 @@
 -- A scan of a record's bytes, one item after the other: what is left to read from an offset, what a turn takes off, and what the whole counts.
 -- Assumes nothing.
-use Prim.Native.Nat.{ℕ, zero, suc, _+_, _-_, _^_, _≤_, _<_}
+use Prim.Native.Nat.{ℕ, zero, suc, _+_, _^_, _≤_, _<_}
 use mathlib.Core.Path.{_≡_, refl, sym, ap, subst, _∙_}
 use mathlib.Core.Bool.{Bool, true, false, not}
 use mathlib.Core.List.{List, [], _∷_}
@@ -16,7 +16,6 @@ use Rattle.sudoku.proofs.Walks.{by-test, pick-true, pick-false, either-first}
 use Rattle.puzzle.specs.declared.Refusal.{Refusal}
 use Rattle.puzzle.specs.Givens.{given}
 use Rattle.puzzle.specs.Refusals.{refusal, accepted, isAccepted}
-use Rattle.journal.specs.declared.Move.{Move}
 use Rattle.journal.specs.declared.Move.the-variants.{Place, Erase, WriteMark, StrikeMark}
 use Rattle.journal.specs.Limits.{maxMoves}
 use Rattle.journal.specs.Bytes.{two}
@@ -24,8 +23,6 @@ use Rattle.record.specs.declared.Asked.{Asked}
 use Rattle.record.specs.declared.Item.{Item}
 use Rattle.record.specs.declared.Item.the-variants.{Given, Played, Undone, Check}
 use Rattle.record.specs.declared.Progress.{Progress}
-use Rattle.record.specs.declared.Read.{Read}
-use Rattle.record.specs.declared.Read.the-variants.{Whole, Nothing}
 use Rattle.record.specs.declared.Scanned.{Scanned}
 use Rattle.record.specs.declared.Step.{Step}
 use Rattle.record.specs.declared.Step.the-variants.{Next, Stopped}

@@ -4,10 +4,10 @@ use Prim.Native.Nat.{ℕ, _≤_, _<_}
 use mathlib.Core.Path.{_≡_, refl, sym, ap, _∙_}
 use mathlib.Core.Bool.{Bool, true, false, not}
 use mathlib.Core.List.{List}
-use borrow.Author.Tests.{eqb-false, eq-eqb, ne-eqb, lt-ltb, le-ltb, leb-true}
+use borrow.Author.Tests.{eqb-false, ne-eqb, lt-ltb, le-ltb, leb-true}
 use lib.Dec.{ltb, eqb, leb}
 use lib.ListN.{length}
-use Rattle.sudoku.specs.Tests.{both, every}
+use Rattle.sudoku.specs.Tests.{both}
 use Rattle.sudoku.proofs.Walks.{by-test, not-is-true, not-is-false, both-left, both-right, pick-true, pick-false}
 use Rattle.puzzle.specs.declared.Refusal.{Refusal}
 use Rattle.puzzle.specs.Refusals.{refusal, accepted, isAccepted, refusedIf, orElse, firstRefused}
@@ -22,7 +22,7 @@ use Rattle.board.specs.declared.Board.{Board}
 use Rattle.board.specs.Board.{stateOf, isBoard}
 use Rattle.play.specs.Play.{unsoundSlot}
 use Rattle.record.specs.Items.{recordOf}
-use Rattle.record.specs.Write.{partsOf, unsoundCheck, unwritable, writeRefusal, Wrote, wrote, writeOf}
+use Rattle.record.specs.Write.{partsOf, unsoundCheck, unwritable, writeRefusal, wrote, writeOf}
 
 -- ---- refusals
 

@@ -1,6 +1,6 @@
 -- How the code reads a record: what a kind byte decides, the item at an offset, and one item after the other counted; and what a scan of the whole record answers.
 -- Assumes nothing.
-use Prim.Native.Nat.{ℕ, _+_, _-_, _^_, _<_}
+use Prim.Native.Nat.{ℕ, _+_, _^_, _<_}
 use mathlib.Core.Bool.{Bool, false, not}
 use mathlib.Core.List.{List, [], _∷_}
 use lib.Dec.{leb, ltb, eqb}

@@ -1,6 +1,6 @@
 -- Checks of a record tested one after the other, 31 to 33, and stored with their verdicts; how many cells were to play.
 -- Assumes nothing.
-use Prim.Native.Nat.{ℕ, zero, suc, _+_, _-_, _*_, _≤_, _<_}
+use Prim.Native.Nat.{ℕ, suc, _+_, _-_, _*_, _≤_, _<_}
 use mathlib.Core.Path.{_≡_, refl, sym, ap, _∙_}
 use mathlib.Core.Bool.{Bool, true, false, not}
 use mathlib.Core.List.{List, [], _∷_, _++_, map}
@@ -21,7 +21,7 @@ use Rattle.puzzle.proofs.Refusals.{refused-if, or-else-by, or-else-passed, or-e
 use Rattle.journal.specs.Limits.{checkBytes}
 use Rattle.journal.specs.Bytes.{over, laid}
 use Rattle.journal.specs.State.{givensOnly, isGiven}
-use Rattle.journal.specs.StoredChecks.{Stored, storedCheck, isRight, judge, storedBytes, storedAll}
+use Rattle.journal.specs.StoredChecks.{storedCheck, isRight, judge, storedBytes, storedAll}
 use Rattle.journal.proofs.Memory.{stored-length, length-stored}
 use Rattle.journal.proofs.Stores.{laid-over}
 use Rattle.board.specs.declared.Board.{Board}

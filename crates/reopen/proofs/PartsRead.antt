@@ -1,6 +1,6 @@
 -- The moves and the checks of a record, read where they stand in its bytes: moves behind the givens, checks at the end.
 -- Assumes nothing.
-use Prim.Native.Nat.{ℕ, zero, suc, _+_, _-_, _*_, _≤_, _<_}
+use Prim.Native.Nat.{ℕ, suc, _+_, _-_, _*_, _≤_, _<_}
 use mathlib.Core.Path.{_≡_, refl, sym, ap, _∙_}
 use mathlib.Core.List.{List, [], _∷_, _++_, map, append-assoc}
 use native.Mathlib.Nat.{add-zero}
@@ -19,7 +19,7 @@ use Rattle.record.specs.Items.{Parts, encode, encodeAll, givenItem, checkItem, 
 use Rattle.record.specs.Counting.{moveAt, askedFrom}
 use Rattle.reopen.specs.Reopening.{movesAt, asksAt}
 use Rattle.record.proofs.ReadBack.{CheckFits}
-use Rattle.record.proofs.Lengths.{length-givens, length-moves, length-checks, record-joined, record-length}
+use Rattle.record.proofs.Lengths.{length-givens, length-checks, record-joined, record-length}
 use Rattle.record.proofs.KindBytes.{move-shift, ask-shift}
 
 -- ---- moves

@@ -3,7 +3,7 @@
 use Prim.Native.Nat.{ℕ, zero, suc, _-_, _*_, _≤_}
 use mathlib.Core.Path.{_≡_, refl, sym, ap, subst, _∙_}
 use mathlib.Core.Bool.{Bool, true, false, not}
-use mathlib.Core.List.{List, []}
+use mathlib.Core.List.{List}
 use native.Mathlib.Omega.{arith}
 use borrow.Author.Tests.{eqb-true, eqb-false, eq-eqb, ne-eqb}
 use lib.Dec.{eqb}
@@ -11,13 +11,12 @@ use lib.ListN.{length, replicate, length-replicate}
 use Rattle.sudoku.specs.Tests.{first, pick, both}
 use Rattle.sudoku.proofs.Walks.{by-test, not-both-ways, both-left, both-right, pick-true, pick-false}
 use Rattle.sudoku.proofs.Each.{Each}
-use Rattle.puzzle.specs.declared.Given.{Given as Setters}
 use Rattle.puzzle.specs.declared.Layout.the-variants.{Items}
 use Rattle.puzzle.specs.declared.Refusal.{Refusal}
 use Rattle.puzzle.specs.Refusals.{refusal, accepted, isAccepted, refusedIf, orElse}
 use Rattle.puzzle.specs.Givens.{givensIn}
 use Rattle.puzzle.specs.Rows.{rowsOf, flat}
-use Rattle.puzzle.proofs.Accepted.{accepts, if-not, or-else-left, or-else-right}
+use Rattle.puzzle.proofs.Accepted.{if-not, or-else-left, or-else-right}
 use Rattle.puzzle.proofs.Refusals.{refused-if, or-else-by, or-else-past}
 use Rattle.puzzle.proofs.Rows.{flat-rows}
 use Rattle.journal.specs.Limits.{maxMoves, maxChecks, journalBytes, checkMemory}
@@ -33,8 +32,8 @@ use Rattle.record.specs.declared.Asked.{Asked}
 use Rattle.record.specs.declared.Scanned.{Scanned}
 use Rattle.record.specs.Items.{Parts, recordOf}
 use Rattle.record.specs.Scan.{malformed, partsOfBytes}
-use Rattle.record.specs.Reopen.{oversized, miscounted, unreadable, replay, takeBackAll, toPlay, checksRefusal, reopened, settledRecord, replayed, reopenOf}
-use Rattle.record.specs.Counting.{scannedOf, refusedBy, readRecord}
+use Rattle.record.specs.Reopen.{oversized, unreadable, replay, takeBackAll, toPlay, checksRefusal, reopened, settledRecord, replayed, reopenOf}
+use Rattle.record.specs.Counting.{refusedBy, readRecord}
 use Rattle.reopen.specs.Reopening.{movesAt, asksAt, settledBy, reopenedOf, Reopens}
 use Rattle.record.proofs.WriteBack.{IsByte, bytes-record, checks-fit}
 use Rattle.record.proofs.Readable.{formed, sized, Sized}

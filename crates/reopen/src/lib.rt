@@ -273,12 +273,12 @@ pub fn reopen(bytes: &[u8], solution: &[u8], journal: &mut [u8], checks: &mut [u
     clear(journal);
     clear(checks);
     let answer = reopened(bytes, solution, journal, checks);
-    let r = answer.refusal;
-    if r.number != 0 {
+    let refused = answer.refusal;
+    if refused.number != 0 {
         clear(journal);
         clear(checks);
         return Answer {
-            refusal: r,
+            refusal: refused,
             board: zero_board(),
         };
     }

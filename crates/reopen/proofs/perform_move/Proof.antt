@@ -20,8 +20,9 @@ refusal-requires c κs = search needs
 
 returns : tie.Need-returns
 returns c =
-    let e = performed-28 (c .before .before .before .args .board) (c .before .before .before .args .journal .now) (c .before .before .before .args .k) (c .before .before .before .args .m) (c .before .if1 .taken) in
-    (ap (λ (r : Refusal). answer r (c .before .before .before .args .board)) (c .refusal .ensures) ∙ sym (ap (λ (x : Played). x .answer) e), sym (ap (λ (x : Played). x .journal) e))
+    let a = c .before .before .before .args in
+    let e = performed-28 (a .board) (a .journal .now) (a .k) (a .m) (c .before .if1 .taken) in
+    (ap (λ (r : Refusal). answer r (a .board)) (c .refusal .ensures) ∙ sym (ap (λ (x : Played). x .answer) e), sym (ap (λ (x : Played). x .journal) e))
 
 move-number-requires : tie.Need-move-number-requires
 move-number-requires c κs = search needs
@@ -31,8 +32,10 @@ refusal-requires-2 c κs = search needs
 
 returns-2 : tie.Need-returns-2
 returns-2 c =
-    let e = performed-29 (c .before .before .before .before .before .args .board) (c .before .before .before .before .before .args .journal .now) (c .before .before .before .before .before .args .k) (c .before .before .before .before .before .args .m) (c .before .before .before .if1 .left) (c .before .before .move-number .result) (c .before .before .move-number .ensures) (c .before .if2 .taken) in
-    (ap (λ (r : Refusal). answer r (c .before .before .before .before .before .args .board)) (c .refusal2 .ensures) ∙ sym (ap (λ (x : Played). x .answer) e), sym (ap (λ (x : Played). x .journal) e))
+    let a = c .before .before .before .before .before .args in
+    let move-number = c .before .before .move-number in
+    let e = performed-29 (a .board) (a .journal .now) (a .k) (a .m) (c .before .before .before .if1 .left) (move-number .result) (move-number .ensures) (c .before .if2 .taken) in
+    (ap (λ (r : Refusal). answer r (a .board)) (c .refusal2 .ensures) ∙ sym (ap (λ (x : Played). x .answer) e), sym (ap (λ (x : Played). x .journal) e))
 
 record-move-requires : tie.Need-record-move-requires
 record-move-requires c κs = search needs
@@ -46,12 +49,16 @@ same-length c = search needs
 returns-3 : tie.Need-returns-3
 unfolding recordMove
 returns-3 c =
-    let e = performed-on (c .before .before .before .before .before .before .before .before .before .args .board) (c .before .before .before .before .before .before .before .before .before .args .journal .now) (c .before .before .before .before .before .before .before .before .before .args .k) (c .before .before .before .before .before .before .before .before .before .args .m) (c .before .before .before .before .before .before .before .if1 .left) (c .before .before .before .before .before .before .move-number .result) (c .before .before .before .before .before .before .move-number .ensures) (c .before .before .before .before .before .if2 .left) in
-    let slot = bytesOf (slotFor (stateOf (c .before .before .before .before .before .before .before .before .before .args .board)) (c .before .before .before .before .before .before .before .before .before .args .m)) in (
-      (λ j. answer (c .accepted .ensures j) (c .before .before .before .record-move .ensures .0 j)) ∙ sym (ap (λ (x : Played). x .answer) e),
-      c .before .before .before .record-move .ensures .1
-          ∙ laid-over (c .before .before .before .before .before .before .before .before .before .args .journal .now) (8 * c .before .before .before .before .before .before .before .before .before .args .board .standing) slot
-          (omega (arith, bytes-length (slotFor (stateOf (c .before .before .before .before .before .before .before .before .before .args .board)) (c .before .before .before .before .before .before .before .before .before .args .m)), c .before .before .before .before .before .before .before .before .before .pre .0, c .before .before .before .before .before .before .before .before .before .pre .1))
+    let a = c .before .before .before .before .before .before .before .before .before .args in
+    let pre = c .before .before .before .before .before .before .before .before .before .pre in
+    let move-number = c .before .before .before .before .before .before .move-number in
+    let record-move = c .before .before .before .record-move in
+    let e = performed-on (a .board) (a .journal .now) (a .k) (a .m) (c .before .before .before .before .before .before .before .if1 .left) (move-number .result) (move-number .ensures) (c .before .before .before .before .before .if2 .left) in
+    let slot = bytesOf (slotFor (stateOf (a .board)) (a .m)) in (
+      (λ j. answer (c .accepted .ensures j) (record-move .ensures .0 j)) ∙ sym (ap (λ (x : Played). x .answer) e),
+      record-move .ensures .1
+          ∙ laid-over (a .journal .now) (8 * a .board .standing) slot
+          (omega (arith, bytes-length (slotFor (stateOf (a .board)) (a .m)), pre .0, pre .1))
           ∙ sym (ap (λ (x : Played). x .journal) e),
     )
 

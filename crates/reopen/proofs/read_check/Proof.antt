@@ -32,7 +32,10 @@ same-length c = search needs
 
 returns-2 : tie.Need-returns-2
 returns-2 c =
-    (c .before .before .before .before .before .before .before .before .before .before .check-refusal .ensures, λ z. c .before .before .write-check .ensures ∙ check-stored (c .before .before .before .before .before .before .before .before .before .before .before .before .args .checks .now) (c .before .before .before .before .before .before .before .before .before .before .before .before .args .k) (c .before .before .before .before .before .before .before .before .before .before .before .before .args .t1 .solution) (c .before .before .before .before .before .before .before .before .before .before .before .before .args .asked) (c .before .before .before .before .is-right .result) (c .before .before .before .before .before .before .before .before .before .before .before .before .pre .0) (c .before .before .before .before .before .before .before .before .before .before .before .before .pre .1) (c .before .before .before .before .is-right .ensures ∙ ap (λ (cell : ℕ). isRight (c .before .before .before .before .before .before .before .before .before .before .before .before .args .t1 .solution) cell (c .before .before .before .before .before .before .before .before .before .before .before .before .args .asked .digit)) (c .before .before .before .before .before .cell-of .ensures .0)))
+    let a = c .before .before .before .before .before .before .before .before .before .before .before .before .args in
+    let pre = c .before .before .before .before .before .before .before .before .before .before .before .before .pre in
+    let is-right = c .before .before .before .before .is-right in
+    (c .before .before .before .before .before .before .before .before .before .before .check-refusal .ensures, λ z. c .before .before .write-check .ensures ∙ check-stored (a .checks .now) (a .k) (a .t1 .solution) (a .asked) (is-right .result) (pre .0) (pre .1) (is-right .ensures ∙ ap (λ (cell : ℕ). isRight (a .t1 .solution) cell (a .asked .digit)) (c .before .before .before .before .before .cell-of .ensures .0)))
 
 pub read-check-spec : {M : Type 1} → statement M
 read-check-spec =

@@ -4,14 +4,12 @@ use Prim.Native.Nat.{ℕ, _≤_, _+_, _-_, _*_}
 use mathlib.Core.Path.{_≡_, refl, sym, ap, _∙_}
 use mathlib.Core.List.{List}
 use native.Mathlib.Omega.{arith}
-use lib.ListN.{length}
 use Rattle.journal.specs.Bytes.{over}
 use Rattle.journal.specs.StoredChecks.{storedBytes}
 use Rattle.journal.proofs.Memory.{stored-length}
 use Rattle.record.specs.declared.Asked.{Asked}
 use Rattle.record.specs.Counting.{askedFrom}
 use Rattle.record.specs.Reopen.{toPlay, checksRefusal, judged}
-use Rattle.reopen.specs.Reopening.{asksAt}
 use Rattle.record.proofs.Laying.{Laying, laying-start, laying-more, laying-end}
 use Rattle.reopen.proofs.Checking.{asksLeft, asks-all, storedOf, stored-size, stored-turn, check-stops, check-goes-on, check-ends, stored-ends}
 use borrow.Author.Needs.{needs}
@@ -32,20 +30,24 @@ to-play-requires : tie.Need-to-play-requires Inv-loop μ-loop
 to-play-requires c κs = search needs
 
 loop-holds : tie.Need-loop-holds Inv-loop μ-loop
-loop-holds c = (
-  omega arith,
-  omega arith,
-  omega arith,
-  refl,
-  laying-start (c .before .before .before .args .checks .now) 0 (storedOf (c .before .before .before .args .board .solution) (asksLeft (c .before .before .before .args .bytes .now) (c .before .before .before .args .start) (c .before .before .before .args .count) 1)) (omega (arith, stored-size (c .before .before .before .args .board .solution) (c .before .before .before .args .bytes .now) (c .before .before .before .args .start) (c .before .before .before .args .count) 1, c .before .before .before .pre .1, c .before .before .before .pre .2)),
-)
+loop-holds c =
+    let a = c .before .before .before .args in
+    let pre = c .before .before .before .pre in (
+      omega arith,
+      omega arith,
+      omega arith,
+      refl,
+      laying-start (a .checks .now) 0 (storedOf (a .board .solution) (asksLeft (a .bytes .now) (a .start) (a .count) 1)) (omega (arith, stored-size (a .board .solution) (a .bytes .now) (a .start) (a .count) 1, pre .1, pre .2)),
+    )
 
 asked-at-requires : tie.Need-asked-at-requires Inv-loop μ-loop
 asked-at-requires c κs = search needs
 
 read-check-requires : tie.Need-read-check-requires Inv-loop μ-loop
 read-check-requires c κs =
-    (c .before .before .before .loop .inv .0, omega (arith, c .before .before .before .loop .inv .4 .same, c .before .before .before .before .before .before .before .pre .1, c .before .before .before .before .before .before .before .pre .2))
+    let pre = c .before .before .before .before .before .before .before .pre in
+    let turn = c .before .before .before .loop in
+    (turn .inv .0, omega (arith, turn .inv .4 .same, pre .1, pre .2))
 
 same-length : tie.Need-same-length Inv-loop μ-loop
 same-length c =
@@ -53,12 +55,18 @@ same-length c =
 
 returns : tie.Need-returns Inv-loop μ-loop
 returns c =
-    let all = ap (checksRefusal (c .before .before .before .before .before .before .before .before .before .before .before .before .args .board) (toPlay (c .before .before .before .before .before .before .before .before .before .before .before .before .args .board)) 1) (asks-all (c .before .before .before .before .before .before .before .before .before .before .before .before .args .bytes .now) (c .before .before .before .before .before .before .before .before .before .before .before .before .args .start) (c .before .before .before .before .before .before .before .before .before .before .before .before .args .count)) in
-    (sym (all ∙ ap (λ (n : ℕ). checksRefusal (c .before .before .before .before .before .before .before .before .before .before .before .before .args .board) n 1 (asksLeft (c .before .before .before .before .before .before .before .before .before .before .before .before .args .bytes .now) (c .before .before .before .before .before .before .before .before .before .before .before .before .args .start) (c .before .before .before .before .before .before .before .before .before .before .before .before .args .count) 1)) (sym (c .before .before .before .before .before .before .before .before .before .to-play .ensures)) ∙ c .before .before .before .before .before .before .before .before .loop .inv .3 ∙ check-stops (c .before .before .before .before .before .before .before .before .before .before .before .before .args .bytes .now) (c .before .before .before .before .before .before .before .before .before .before .before .before .args .start) (c .before .before .before .before .before .before .before .before .before .before .before .before .args .count) (c .before .before .before .before .before .before .before .before .loop .k) (c .before .before .before .before .before .before .before .before .before .before .before .before .args .board) (c .before .before .before .before .before .before .before .before .before .to-play .result) (c .before .before .before .before .before .before .asked-at .result) (omega arith) (c .before .before .before .before .before .before .asked-at .ensures ∙ ap (askedFrom (c .before .before .before .before .before .before .before .before .before .before .before .before .args .bytes .now)) (c .before .before .before .before .before .before .before .before .loop .inv .2)) (c .before .before .before .before .read-check .result) (c .before .before .before .before .read-check .ensures .0) (c .if1 .taken)), λ z. absurd (c .if1 .taken z))
+    let a = c .before .before .before .before .before .before .before .before .before .before .before .before .args in
+    let to-play = c .before .before .before .before .before .before .before .before .before .to-play in
+    let turn = c .before .before .before .before .before .before .before .before .loop in
+    let asked-at = c .before .before .before .before .before .before .asked-at in
+    let read-check = c .before .before .before .before .read-check in
+    let all = ap (checksRefusal (a .board) (toPlay (a .board)) 1) (asks-all (a .bytes .now) (a .start) (a .count)) in
+    (sym (all ∙ ap (λ (n : ℕ). checksRefusal (a .board) n 1 (asksLeft (a .bytes .now) (a .start) (a .count) 1)) (sym (to-play .ensures)) ∙ turn .inv .3 ∙ check-stops (a .bytes .now) (a .start) (a .count) (turn .k) (a .board) (to-play .result) (asked-at .result) (omega arith) (asked-at .ensures ∙ ap (askedFrom (a .bytes .now)) (turn .inv .2)) (read-check .result) (read-check .ensures .0) (c .if1 .taken)), λ z. absurd (c .if1 .taken z))
 
 add-at : tie.Need-add-at Inv-loop μ-loop
 add-at c =
-    omega (arith, c .before .before .before .before .before .before .before .before .loop .inv .2, c .before .before .before .before .before .before .before .before .before .before .before .before .pre .0, c .before .before .before .before .before .before .before .before .before .before .before .before .pre .1, c .before .before .before .before .before .before .before .before .before .before .before .before .good .0 .1)
+    let pre = c .before .before .before .before .before .before .before .before .before .before .before .before .pre in
+    omega (arith, c .before .before .before .before .before .before .before .before .loop .inv .2, pre .0, pre .1, c .before .before .before .before .before .before .before .before .before .before .before .before .good .0 .1)
 
 add-k : tie.Need-add-k Inv-loop μ-loop
 add-k c = search needs
@@ -67,13 +75,18 @@ loop-less : tie.Need-loop-less Inv-loop μ-loop
 loop-less c = search needs
 
 loop-again : tie.Need-loop-again Inv-loop μ-loop
-loop-again c = (
-  omega arith,
-  omega arith,
-  omega (arith, c .before .before .before .before .before .before .before .before .loop .inv .2),
-  c .before .before .before .before .before .before .before .before .loop .inv .3 ∙ check-goes-on (c .before .before .before .before .before .before .before .before .before .before .before .before .args .bytes .now) (c .before .before .before .before .before .before .before .before .before .before .before .before .args .start) (c .before .before .before .before .before .before .before .before .before .before .before .before .args .count) (c .before .before .before .before .before .before .before .before .loop .k) (c .before .before .before .before .before .before .before .before .before .before .before .before .args .board) (c .before .before .before .before .before .before .before .before .before .to-play .result) (c .before .before .before .before .before .before .asked-at .result) (omega arith) (c .before .before .before .before .before .before .asked-at .ensures ∙ ap (askedFrom (c .before .before .before .before .before .before .before .before .before .before .before .before .args .bytes .now)) (c .before .before .before .before .before .before .before .before .loop .inv .2)) (c .before .before .before .before .read-check .result) (c .before .before .before .before .read-check .ensures .0) (c .if1 .left),
-  laying-more _ _ _ _ _ _ (c .before .before .before .before .before .before .before .before .loop .inv .4) (storedBytes (judged (c .before .before .before .before .before .before .before .before .before .before .before .before .args .board .solution) (c .before .before .before .before .before .before .asked-at .result))) (storedOf (c .before .before .before .before .before .before .before .before .before .before .before .before .args .board .solution) (asksLeft (c .before .before .before .before .before .before .before .before .before .before .before .before .args .bytes .now) (c .before .before .before .before .before .before .before .before .before .before .before .before .args .start) (c .before .before .before .before .before .before .before .before .before .before .before .before .args .count) (c .before .before .before .before .before .before .before .before .loop .k + 1))) _ _ (stored-turn (c .before .before .before .before .before .before .before .before .before .before .before .before .args .bytes .now) (c .before .before .before .before .before .before .before .before .before .before .before .before .args .start) (c .before .before .before .before .before .before .before .before .before .before .before .before .args .count) (c .before .before .before .before .before .before .before .before .loop .k) (c .before .before .before .before .before .before .before .before .before .before .before .before .args .board) (c .before .before .before .before .before .before .before .before .before .to-play .result) (c .before .before .before .before .before .before .asked-at .result) (omega arith) (c .before .before .before .before .before .before .asked-at .ensures ∙ ap (askedFrom (c .before .before .before .before .before .before .before .before .before .before .before .before .args .bytes .now)) (c .before .before .before .before .before .before .before .before .loop .inv .2))) (omega (arith, stored-length (judged (c .before .before .before .before .before .before .before .before .before .before .before .before .args .board .solution) (c .before .before .before .before .before .before .asked-at .result)))) (c .before .before .before .before .read-check .ensures .1 (c .if1 .left)),
-)
+loop-again c =
+    let a = c .before .before .before .before .before .before .before .before .before .before .before .before .args in
+    let to-play = c .before .before .before .before .before .before .before .before .before .to-play in
+    let turn = c .before .before .before .before .before .before .before .before .loop in
+    let asked-at = c .before .before .before .before .before .before .asked-at in
+    let read-check = c .before .before .before .before .read-check in (
+      omega arith,
+      omega arith,
+      omega (arith, turn .inv .2),
+      turn .inv .3 ∙ check-goes-on (a .bytes .now) (a .start) (a .count) (turn .k) (a .board) (to-play .result) (asked-at .result) (omega arith) (asked-at .ensures ∙ ap (askedFrom (a .bytes .now)) (turn .inv .2)) (read-check .result) (read-check .ensures .0) (c .if1 .left),
+      laying-more _ _ _ _ _ _ (turn .inv .4) (storedBytes (judged (a .board .solution) (asked-at .result))) (storedOf (a .board .solution) (asksLeft (a .bytes .now) (a .start) (a .count) (turn .k + 1))) _ _ (stored-turn (a .bytes .now) (a .start) (a .count) (turn .k) (a .board) (to-play .result) (asked-at .result) (omega arith) (asked-at .ensures ∙ ap (askedFrom (a .bytes .now)) (turn .inv .2))) (omega (arith, stored-length (judged (a .board .solution) (asked-at .result)))) (read-check .ensures .1 (c .if1 .left)),
+    )
 
 accepted-requires : tie.Need-accepted-requires Inv-loop μ-loop
 accepted-requires c κs = search needs
@@ -84,13 +97,16 @@ same-length-2 c =
 
 returns-2 : tie.Need-returns-2 Inv-loop μ-loop
 returns-2 c =
-    let ends = laying-end _ _ _ _ _ _ (c .before .before .loop .inv .4) (stored-ends (c .before .before .before .before .before .before .args .bytes .now) (c .before .before .before .before .before .before .args .start) (c .before .before .before .before .before .before .args .count) (c .before .before .loop .k) (omega arith) (c .before .before .before .before .before .before .args .board .solution)) in (
+    let a = c .before .before .before .before .before .before .args in
+    let to-play = c .before .before .before .to-play in
+    let turn = c .before .before .loop in
+    let ends = laying-end _ _ _ _ _ _ (turn .inv .4) (stored-ends (a .bytes .now) (a .start) (a .count) (turn .k) (omega arith) (a .board .solution)) in (
       c .accepted .ensures
-          ∙ sym (ap (checksRefusal (c .before .before .before .before .before .before .args .board) (toPlay (c .before .before .before .before .before .before .args .board)) 1) (asks-all (c .before .before .before .before .before .before .args .bytes .now) (c .before .before .before .before .before .before .args .start) (c .before .before .before .before .before .before .args .count))
-          ∙ ap (λ (n : ℕ). checksRefusal (c .before .before .before .before .before .before .args .board) n 1 (asksLeft (c .before .before .before .before .before .before .args .bytes .now) (c .before .before .before .before .before .before .args .start) (c .before .before .before .before .before .before .args .count) 1)) (sym (c .before .before .before .to-play .ensures))
-          ∙ c .before .before .loop .inv .3
-          ∙ check-ends (c .before .before .before .before .before .before .args .bytes .now) (c .before .before .before .before .before .before .args .start) (c .before .before .before .before .before .before .args .count) (c .before .before .loop .k) (omega arith) (c .before .before .before .before .before .before .args .board) (c .before .before .before .to-play .result)),
-      λ z. ends .1 ∙ ap (λ (l : List Asked). over (c .before .before .before .before .before .before .args .checks .now) 0 (storedOf (c .before .before .before .before .before .before .args .board .solution) l)) (sym (asks-all (c .before .before .before .before .before .before .args .bytes .now) (c .before .before .before .before .before .before .args .start) (c .before .before .before .before .before .before .args .count))),
+          ∙ sym (ap (checksRefusal (a .board) (toPlay (a .board)) 1) (asks-all (a .bytes .now) (a .start) (a .count))
+          ∙ ap (λ (n : ℕ). checksRefusal (a .board) n 1 (asksLeft (a .bytes .now) (a .start) (a .count) 1)) (sym (to-play .ensures))
+          ∙ turn .inv .3
+          ∙ check-ends (a .bytes .now) (a .start) (a .count) (turn .k) (omega arith) (a .board) (to-play .result)),
+      λ z. ends .1 ∙ ap (λ (l : List Asked). over (a .checks .now) 0 (storedOf (a .board .solution) l)) (sym (asks-all (a .bytes .now) (a .start) (a .count))),
     )
 
 pub read-checks-spec : {M : Type 1} → statement M

@@ -1,9 +1,7 @@
 -- `reopen::reopen` meets its contract: number 1, then zeros; where the record is refused, zeros again and the zero board.
 -- Assumes nothing.
 use mathlib.Core.Path.{refl, sym, _∙_}
-use native.Mathlib.Omega.{arith}
 use borrow.Author.Tests.{not-true, not-false}
-use lib.ListN.{length}
 use Rattle.board.specs.Open.{lentLengths}
 use Rattle.reopen.proofs.Settling.{wrong-lent, solution-length, journal-zero, checks-zero, lent-refused, lent-given}
 use Rattle.reopen.proofs.reopen.Statement.{statement}
@@ -19,7 +17,8 @@ wrong-length-requires c κs = search needs
 returns : tie.Need-returns
 unfolding lentLengths
 returns c =
-    wrong-lent (c .before .before .before .before .before .before .before .args .bytes .now) (c .before .before .before .before .before .before .before .args .solution .now) (c .before .before .before .before .before .before .before .args .journal .now) (c .before .before .before .before .before .before .before .args .checks .now) _ (sym (c .before .before .lent-lengths .ensures) ∙ not-true _ (c .before .if1 .taken)) (c .wrong-length .ensures)
+    let a = c .before .before .before .before .before .before .before .args in
+    wrong-lent (a .bytes .now) (a .solution .now) (a .journal .now) (a .checks .now) _ (sym (c .before .before .lent-lengths .ensures) ∙ not-true _ (c .before .if1 .taken)) (c .wrong-length .ensures)
 
 clear-requires : tie.Need-clear-requires
 clear-requires c κs = search needs
@@ -30,7 +29,9 @@ clear-requires-2 c κs = search needs
 reopened-requires : tie.Need-reopened-requires
 unfolding lentLengths
 reopened-requires c κs =
-    (solution-length (c .before .before .before .before .before .before .before .before .before .before .before .before .before .before .before .before .args .bytes .now) (c .before .before .before .before .before .before .before .before .before .before .before .before .before .before .before .before .args .solution .now) (c .before .before .before .before .before .before .before .before .before .before .before .before .before .before .before .before .args .journal .now) (c .before .before .before .before .before .before .before .before .before .before .before .before .before .before .before .before .args .checks .now) (sym (c .before .before .before .before .before .before .before .before .before .before .before .lent-lengths .ensures) ∙ not-false _ (c .before .before .before .before .before .before .before .before .before .before .if1 .left)), journal-zero (c .before .before .before .before .before .before .before .before .before .before .before .before .before .before .before .before .args .bytes .now) (c .before .before .before .before .before .before .before .before .before .before .before .before .before .before .before .before .args .solution .now) (c .before .before .before .before .before .before .before .before .before .before .before .before .before .before .before .before .args .journal .now) (c .before .before .before .before .before .before .before .before .before .before .before .before .before .before .before .before .args .checks .now) (sym (c .before .before .before .before .before .before .before .before .before .before .before .lent-lengths .ensures) ∙ not-false _ (c .before .before .before .before .before .before .before .before .before .before .if1 .left)) _ _ refl (c .before .before .before .before .before .before .before .before .clear .ensures), checks-zero (c .before .before .before .before .before .before .before .before .before .before .before .before .before .before .before .before .args .bytes .now) (c .before .before .before .before .before .before .before .before .before .before .before .before .before .before .before .before .args .solution .now) (c .before .before .before .before .before .before .before .before .before .before .before .before .before .before .before .before .args .journal .now) (c .before .before .before .before .before .before .before .before .before .before .before .before .before .before .before .before .args .checks .now) (sym (c .before .before .before .before .before .before .before .before .before .before .before .lent-lengths .ensures) ∙ not-false _ (c .before .before .before .before .before .before .before .before .before .before .if1 .left)) _ _ refl (c .before .before .before .before .clear2 .ensures))
+    let a = c .before .before .before .before .before .before .before .before .before .before .before .before .before .before .before .before .args in
+    let lent-lengths = c .before .before .before .before .before .before .before .before .before .before .before .lent-lengths in
+    (solution-length (a .bytes .now) (a .solution .now) (a .journal .now) (a .checks .now) (sym (lent-lengths .ensures) ∙ not-false _ (c .before .before .before .before .before .before .before .before .before .before .if1 .left)), journal-zero (a .bytes .now) (a .solution .now) (a .journal .now) (a .checks .now) (sym (lent-lengths .ensures) ∙ not-false _ (c .before .before .before .before .before .before .before .before .before .before .if1 .left)) _ _ refl (c .before .before .before .before .before .before .before .before .clear .ensures), checks-zero (a .bytes .now) (a .solution .now) (a .journal .now) (a .checks .now) (sym (lent-lengths .ensures) ∙ not-false _ (c .before .before .before .before .before .before .before .before .before .before .if1 .left)) _ _ refl (c .before .before .before .before .clear2 .ensures))
 
 clear-requires-3 : tie.Need-clear-requires-3
 clear-requires-3 c κs = search needs
@@ -52,9 +53,13 @@ same-length-2 c =
 returns-2 : tie.Need-returns-2
 unfolding lentLengths
 returns-2 c =
-    lent-refused (c .before .before .before .before .before .before .before .before .before .before .before .before .before .before .before .before .before .before .before .before .before .before .before .before .before .before .before .before .before .before .before .before .before .args .bytes .now) (c .before .before .before .before .before .before .before .before .before .before .before .before .before .before .before .before .before .before .before .before .before .before .before .before .before .before .before .before .before .before .before .before .before .args .solution .now) (c .before .before .before .before .before .before .before .before .before .before .before .before .before .before .before .before .before .before .before .before .before .before .before .before .before .before .before .before .before .before .before .before .before .args .journal .now) (c .before .before .before .before .before .before .before .before .before .before .before .before .before .before .before .before .before .before .before .before .before .before .before .before .before .before .before .before .before .before .before .before .before .args .checks .now) (sym (c .before .before .before .before .before .before .before .before .before .before .before .before .before .before .before .before .before .before .before .before .before .before .before .before .before .before .before .before .lent-lengths .ensures) ∙ not-false _ (c .before .before .before .before .before .before .before .before .before .before .before .before .before .before .before .before .before .before .before .before .before .before .before .before .before .before .before .if1 .left)) (c .before .before .before .before .before .before .before .before .before .before .before .before .before .before .before .before .reopened .result) _ _ (c .before .before .before .before .before .before .before .before .before .before .before .before .before .before .before .before .reopened .ensures) (c .before .before .before .before .before .before .before .before .before .if2 .taken) (c .zero-board .result) _ _ (c .zero-board .ensures)
-    (journal-zero (c .before .before .before .before .before .before .before .before .before .before .before .before .before .before .before .before .before .before .before .before .before .before .before .before .before .before .before .before .before .before .before .before .before .args .bytes .now) (c .before .before .before .before .before .before .before .before .before .before .before .before .before .before .before .before .before .before .before .before .before .before .before .before .before .before .before .before .before .before .before .before .before .args .solution .now) (c .before .before .before .before .before .before .before .before .before .before .before .before .before .before .before .before .before .before .before .before .before .before .before .before .before .before .before .before .before .before .before .before .before .args .journal .now) (c .before .before .before .before .before .before .before .before .before .before .before .before .before .before .before .before .before .before .before .before .before .before .before .before .before .before .before .before .before .before .before .before .before .args .checks .now) (sym (c .before .before .before .before .before .before .before .before .before .before .before .before .before .before .before .before .before .before .before .before .before .before .before .before .before .before .before .before .lent-lengths .ensures) ∙ not-false _ (c .before .before .before .before .before .before .before .before .before .before .before .before .before .before .before .before .before .before .before .before .before .before .before .before .before .before .before .if1 .left)) _ _ (c .before .before .before .before .before .before .before .before .before .before .before .before .before .before .before .before .reopened .kept .1 .1 .0 ∙ c .before .before .before .before .before .before .before .before .before .before .before .before .before .before .before .before .before .before .before .before .before .before .before .before .before .clear .kept .0) (c .before .before .before .before .before .before .before .clear3 .ensures))
-    (checks-zero (c .before .before .before .before .before .before .before .before .before .before .before .before .before .before .before .before .before .before .before .before .before .before .before .before .before .before .before .before .before .before .before .before .before .args .bytes .now) (c .before .before .before .before .before .before .before .before .before .before .before .before .before .before .before .before .before .before .before .before .before .before .before .before .before .before .before .before .before .before .before .before .before .args .solution .now) (c .before .before .before .before .before .before .before .before .before .before .before .before .before .before .before .before .before .before .before .before .before .before .before .before .before .before .before .before .before .before .before .before .before .args .journal .now) (c .before .before .before .before .before .before .before .before .before .before .before .before .before .before .before .before .before .before .before .before .before .before .before .before .before .before .before .before .before .before .before .before .before .args .checks .now) (sym (c .before .before .before .before .before .before .before .before .before .before .before .before .before .before .before .before .before .before .before .before .before .before .before .before .before .before .before .before .lent-lengths .ensures) ∙ not-false _ (c .before .before .before .before .before .before .before .before .before .before .before .before .before .before .before .before .before .before .before .before .before .before .before .before .before .before .before .if1 .left)) _ _ (c .before .before .before .before .before .before .before .before .before .before .before .before .before .before .before .before .reopened .kept .1 .1 .1 .0 ∙ c .before .before .before .before .before .before .before .before .before .before .before .before .before .before .before .before .before .before .before .before .before .clear2 .kept .0) (c .before .before .before .clear4 .ensures))
+    let a = c .before .before .before .before .before .before .before .before .before .before .before .before .before .before .before .before .before .before .before .before .before .before .before .before .before .before .before .before .before .before .before .before .before .args in
+    let lent-lengths = c .before .before .before .before .before .before .before .before .before .before .before .before .before .before .before .before .before .before .before .before .before .before .before .before .before .before .before .before .lent-lengths in
+    let reopened = c .before .before .before .before .before .before .before .before .before .before .before .before .before .before .before .before .reopened in
+    let zero-board = c .zero-board in
+    lent-refused (a .bytes .now) (a .solution .now) (a .journal .now) (a .checks .now) (sym (lent-lengths .ensures) ∙ not-false _ (c .before .before .before .before .before .before .before .before .before .before .before .before .before .before .before .before .before .before .before .before .before .before .before .before .before .before .before .if1 .left)) (reopened .result) _ _ (reopened .ensures) (c .before .before .before .before .before .before .before .before .before .if2 .taken) (zero-board .result) _ _ (zero-board .ensures)
+    (journal-zero (a .bytes .now) (a .solution .now) (a .journal .now) (a .checks .now) (sym (lent-lengths .ensures) ∙ not-false _ (c .before .before .before .before .before .before .before .before .before .before .before .before .before .before .before .before .before .before .before .before .before .before .before .before .before .before .before .if1 .left)) _ _ (reopened .kept .1 .1 .0 ∙ c .before .before .before .before .before .before .before .before .before .before .before .before .before .before .before .before .before .before .before .before .before .before .before .before .before .clear .kept .0) (c .before .before .before .before .before .before .before .clear3 .ensures))
+    (checks-zero (a .bytes .now) (a .solution .now) (a .journal .now) (a .checks .now) (sym (lent-lengths .ensures) ∙ not-false _ (c .before .before .before .before .before .before .before .before .before .before .before .before .before .before .before .before .before .before .before .before .before .before .before .before .before .before .before .if1 .left)) _ _ (reopened .kept .1 .1 .1 .0 ∙ c .before .before .before .before .before .before .before .before .before .before .before .before .before .before .before .before .before .before .before .before .before .clear2 .kept .0) (c .before .before .before .clear4 .ensures))
 
 same-length-3 : tie.Need-same-length-3
 same-length-3 c = search needs
@@ -65,7 +70,9 @@ same-length-4 c = search needs
 returns-3 : tie.Need-returns-3
 unfolding lentLengths
 returns-3 c =
-    lent-given (c .before .before .before .before .before .before .before .before .before .before .before .before .before .before .before .before .before .before .before .before .before .before .before .before .args .bytes .now) (c .before .before .before .before .before .before .before .before .before .before .before .before .before .before .before .before .before .before .before .before .before .before .before .before .args .solution .now) (c .before .before .before .before .before .before .before .before .before .before .before .before .before .before .before .before .before .before .before .before .before .before .before .before .args .journal .now) (c .before .before .before .before .before .before .before .before .before .before .before .before .before .before .before .before .before .before .before .before .before .before .before .before .args .checks .now) (sym (c .before .before .before .before .before .before .before .before .before .before .before .before .before .before .before .before .before .before .before .lent-lengths .ensures) ∙ not-false _ (c .before .before .before .before .before .before .before .before .before .before .before .before .before .before .before .before .before .before .if1 .left)) (c .before .before .before .before .before .before .before .reopened .result) _ _ (c .before .before .before .before .before .before .before .reopened .ensures) (c .if2 .left)
+    let a = c .before .before .before .before .before .before .before .before .before .before .before .before .before .before .before .before .before .before .before .before .before .before .before .before .args in
+    let reopened = c .before .before .before .before .before .before .before .reopened in
+    lent-given (a .bytes .now) (a .solution .now) (a .journal .now) (a .checks .now) (sym (c .before .before .before .before .before .before .before .before .before .before .before .before .before .before .before .before .before .before .before .lent-lengths .ensures) ∙ not-false _ (c .before .before .before .before .before .before .before .before .before .before .before .before .before .before .before .before .before .before .if1 .left)) (reopened .result) _ _ (reopened .ensures) (c .if2 .left)
 
 pub reopen-spec : {M : Type 1} → statement M
 reopen-spec =

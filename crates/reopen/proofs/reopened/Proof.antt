@@ -17,29 +17,46 @@ zero-board-requires c κs = search needs
 
 returns : tie.Need-returns
 returns c =
-    reopens-refused _ _ _ _ (c .before .before .before .before .read-record .result .refusal) (unread (c .before .before .before .before .before .before .before .before .before .args .bytes .now) (c .before .before .before .before .before .before .before .before .before .args .solution .now) (c .before .before .before .before .read-record .result) (c .before .before .before .before .read-record .ensures) (c .before .if1 .taken)) refl (c .before .if1 .taken)
+    let a = c .before .before .before .before .before .before .before .before .before .args in
+    let read-record = c .before .before .before .before .read-record in
+    reopens-refused _ _ _ _ (read-record .result .refusal) (unread (a .bytes .now) (a .solution .now) (read-record .result) (read-record .ensures) (c .before .if1 .taken)) refl (c .before .if1 .taken)
 
 fresh-requires : tie.Need-fresh-requires
 fresh-requires c κs = search needs
 
 mul-replay : tie.Need-mul-replay
 mul-replay c =
-    omega (arith, givens-inside (c .before .before .before .before .before .before .before .before .before .before .args .bytes .now) (c .before .before .before .before .before .before .before .before .before .before .args .solution .now) (c .before .before .before .before .before .read-record .result) (c .before .before .before .before .before .read-record .ensures) (c .before .before .if1 .left) (are-bytes (c .before .before .before .before .before .before .before .before .before .before .args .bytes .now) (λ i u. omega (arith, c .before .before .before .before .before .before .before .before .before .shared-slice-known .given i))), c .before .before .before .before .before .before .before .before .before .before .good .0 .1)
+    let a = c .before .before .before .before .before .before .before .before .before .before .args in
+    let read-record = c .before .before .before .before .before .read-record in
+    omega (arith, givens-inside (a .bytes .now) (a .solution .now) (read-record .result) (read-record .ensures) (c .before .before .if1 .left) (are-bytes (a .bytes .now) (λ i u. omega (arith, c .before .before .before .before .before .before .before .before .before .shared-slice-known .given i))), c .before .before .before .before .before .before .before .before .before .before .good .0 .1)
 
 replay-requires : tie.Need-replay-requires
 replay-requires c κs =
-    (givens-inside (c .before .before .before .before .before .before .before .before .before .before .before .args .bytes .now) (c .before .before .before .before .before .before .before .before .before .before .before .args .solution .now) (c .before .before .before .before .before .before .read-record .result) (c .before .before .before .before .before .before .read-record .ensures) (c .before .before .before .if1 .left) (are-bytes (c .before .before .before .before .before .before .before .before .before .before .before .args .bytes .now) (λ i u. omega (arith, c .before .before .before .before .before .before .before .before .before .before .shared-slice-known .given i))), few-moves (c .before .before .before .before .before .before .before .before .before .before .before .args .bytes .now) (c .before .before .before .before .before .before .before .before .before .before .before .args .solution .now) (c .before .before .before .before .before .before .read-record .result) (c .before .before .before .before .before .before .read-record .ensures) (c .before .before .before .if1 .left) (are-bytes (c .before .before .before .before .before .before .before .before .before .before .before .args .bytes .now) (λ i u. omega (arith, c .before .before .before .before .before .before .before .before .before .before .shared-slice-known .given i))), none-stand (c .before .before .before .before .before .before .before .before .before .before .before .args .bytes .now) (c .before .before .before .before .before .before .before .before .before .before .before .args .solution .now) (c .before .before .before .before .before .before .read-record .result) (c .before .before .before .before .before .before .read-record .ensures) (c .before .before .before .if1 .left) (are-bytes (c .before .before .before .before .before .before .before .before .before .before .before .args .bytes .now) (λ i u. omega (arith, c .before .before .before .before .before .before .before .before .before .before .shared-slice-known .given i))) (c .before .before .before .before .before .before .before .before .before .before .before .pre .0) (c .before .before .fresh .result) (c .before .before .fresh .ensures) (c .before .before .before .before .before .before .before .before .before .before .before .args .journal .now) (c .before .before .before .before .before .before .before .before .before .before .before .pre .1), ap length (c .before .before .before .before .before .before .before .before .before .before .before .pre .1) ∙ no-moves-length)
+    let a = c .before .before .before .before .before .before .before .before .before .before .before .args in
+    let pre = c .before .before .before .before .before .before .before .before .before .before .before .pre in
+    let shared-slice-known = c .before .before .before .before .before .before .before .before .before .before .shared-slice-known in
+    let read-record = c .before .before .before .before .before .before .read-record in
+    let fresh = c .before .before .fresh in
+    (givens-inside (a .bytes .now) (a .solution .now) (read-record .result) (read-record .ensures) (c .before .before .before .if1 .left) (are-bytes (a .bytes .now) (λ i u. omega (arith, shared-slice-known .given i))), few-moves (a .bytes .now) (a .solution .now) (read-record .result) (read-record .ensures) (c .before .before .before .if1 .left) (are-bytes (a .bytes .now) (λ i u. omega (arith, shared-slice-known .given i))), none-stand (a .bytes .now) (a .solution .now) (read-record .result) (read-record .ensures) (c .before .before .before .if1 .left) (are-bytes (a .bytes .now) (λ i u. omega (arith, shared-slice-known .given i))) (pre .0) (fresh .result) (fresh .ensures) (a .journal .now) (pre .1), ap length (pre .1) ∙ no-moves-length)
 
 same-length : tie.Need-same-length
 same-length c = search needs
 
 returns-2 : tie.Need-returns-2
 returns-2 c =
-    reopens-refused _ _ _ _ (c .before .before .before .before .before .replay .result .refusal) (unplayed (c .before .before .before .before .before .before .before .before .before .before .before .before .before .before .before .before .before .args .bytes .now) (c .before .before .before .before .before .before .before .before .before .before .before .before .before .before .before .before .before .args .solution .now) (c .before .before .before .before .before .before .before .before .before .before .before .before .read-record .result) (c .before .before .before .before .before .before .before .before .before .before .before .before .read-record .ensures) (c .before .before .before .before .before .before .before .before .before .if1 .left) (are-bytes (c .before .before .before .before .before .before .before .before .before .before .before .before .before .before .before .before .before .args .bytes .now) (λ i u. omega (arith, c .before .before .before .before .before .before .before .before .before .before .before .before .before .before .before .before .shared-slice-known .given i))) (c .before .before .before .before .before .before .before .before .before .before .before .before .before .before .before .before .before .pre .0) (c .before .before .before .before .before .before .before .before .fresh .result) (c .before .before .before .before .before .before .before .before .fresh .ensures) (c .before .before .before .before .before .before .before .before .before .before .before .before .before .before .before .before .before .args .journal .now) (c .before .before .before .before .before .before .before .before .before .before .before .before .before .before .before .before .before .pre .1) (c .before .before .before .before .before .replay .result) _ (c .before .before .before .before .before .replay .ensures .0) (c .before .before .before .before .before .replay .ensures .1) (c .if2 .taken)) refl (c .if2 .taken)
+    let a = c .before .before .before .before .before .before .before .before .before .before .before .before .before .before .before .before .before .args in
+    let pre = c .before .before .before .before .before .before .before .before .before .before .before .before .before .before .before .before .before .pre in
+    let read-record = c .before .before .before .before .before .before .before .before .before .before .before .before .read-record in
+    let fresh = c .before .before .before .before .before .before .before .before .fresh in
+    let replay = c .before .before .before .before .before .replay in
+    reopens-refused _ _ _ _ (replay .result .refusal) (unplayed (a .bytes .now) (a .solution .now) (read-record .result) (read-record .ensures) (c .before .before .before .before .before .before .before .before .before .if1 .left) (are-bytes (a .bytes .now) (λ i u. omega (arith, c .before .before .before .before .before .before .before .before .before .before .before .before .before .before .before .before .shared-slice-known .given i))) (pre .0) (fresh .result) (fresh .ensures) (a .journal .now) (pre .1) (replay .result) _ (replay .ensures .0) (replay .ensures .1) (c .if2 .taken)) refl (c .if2 .taken)
 
 settle-requires : tie.Need-settle-requires
 settle-requires c κs =
-    (few-checks (c .before .before .before .before .before .before .before .before .before .before .before .before .before .before .before .before .before .before .before .before .args .bytes .now) (c .before .before .before .before .before .before .before .before .before .before .before .before .before .before .before .before .before .before .before .before .args .solution .now) (c .before .before .before .before .before .before .before .before .before .before .before .before .before .before .before .read-record .result) (c .before .before .before .before .before .before .before .before .before .before .before .before .before .before .before .read-record .ensures) (c .before .before .before .before .before .before .before .before .before .before .before .before .if1 .left) (are-bytes (c .before .before .before .before .before .before .before .before .before .before .before .before .before .before .before .before .before .before .before .before .args .bytes .now) (λ i u. omega (arith, c .before .before .before .before .before .before .before .before .before .before .before .before .before .before .before .before .before .before .before .shared-slice-known .given i))), checks-inside (c .before .before .before .before .before .before .before .before .before .before .before .before .before .before .before .before .before .before .before .before .args .bytes .now) (c .before .before .before .before .before .before .before .before .before .before .before .before .before .before .before .before .before .before .before .before .args .solution .now) (c .before .before .before .before .before .before .before .before .before .before .before .before .before .before .before .read-record .result) (c .before .before .before .before .before .before .before .before .before .before .before .before .before .before .before .read-record .ensures) (c .before .before .before .before .before .before .before .before .before .before .before .before .if1 .left) (are-bytes (c .before .before .before .before .before .before .before .before .before .before .before .before .before .before .before .before .before .before .before .before .args .bytes .now) (λ i u. omega (arith, c .before .before .before .before .before .before .before .before .before .before .before .before .before .before .before .before .before .before .before .shared-slice-known .given i))), c .before .before .before .before .before .before .before .before .before .before .before .before .before .before .before .before .before .before .before .before .pre .2)
+    let a = c .before .before .before .before .before .before .before .before .before .before .before .before .before .before .before .before .before .before .before .before .args in
+    let shared-slice-known = c .before .before .before .before .before .before .before .before .before .before .before .before .before .before .before .before .before .before .before .shared-slice-known in
+    let read-record = c .before .before .before .before .before .before .before .before .before .before .before .before .before .before .before .read-record in
+    (few-checks (a .bytes .now) (a .solution .now) (read-record .result) (read-record .ensures) (c .before .before .before .before .before .before .before .before .before .before .before .before .if1 .left) (are-bytes (a .bytes .now) (λ i u. omega (arith, shared-slice-known .given i))), checks-inside (a .bytes .now) (a .solution .now) (read-record .result) (read-record .ensures) (c .before .before .before .before .before .before .before .before .before .before .before .before .if1 .left) (are-bytes (a .bytes .now) (λ i u. omega (arith, shared-slice-known .given i))), c .before .before .before .before .before .before .before .before .before .before .before .before .before .before .before .before .before .before .before .before .pre .2)
 
 same-length-2 : tie.Need-same-length-2
 same-length-2 c = search needs
@@ -49,7 +66,12 @@ same-length-3 c = search needs
 
 returns-3 : tie.Need-returns-3
 returns-3 c =
-    reopens-same _ _ _ _ _ (plays-on (c .before .before .before .before .before .before .before .before .before .before .before .before .before .before .before .before .before .before .before .before .before .before .before .args .bytes .now) (c .before .before .before .before .before .before .before .before .before .before .before .before .before .before .before .before .before .before .before .before .before .before .before .args .solution .now) (c .before .before .before .before .before .before .before .before .before .before .before .before .before .before .before .before .before .before .read-record .result) (c .before .before .before .before .before .before .before .before .before .before .before .before .before .before .before .before .before .before .read-record .ensures) (c .before .before .before .before .before .before .before .before .before .before .before .before .before .before .before .if1 .left) (are-bytes (c .before .before .before .before .before .before .before .before .before .before .before .before .before .before .before .before .before .before .before .before .before .before .before .args .bytes .now) (λ i u. omega (arith, c .before .before .before .before .before .before .before .before .before .before .before .before .before .before .before .before .before .before .before .before .before .before .shared-slice-known .given i))) (c .before .before .before .before .before .before .before .before .before .before .before .before .before .before .before .before .before .before .before .before .before .before .before .pre .0) (c .before .before .before .before .before .before .before .before .before .before .before .before .before .before .fresh .result) (c .before .before .before .before .before .before .before .before .before .before .before .before .before .before .fresh .ensures) (c .before .before .before .before .before .before .before .before .before .before .before .before .before .before .before .before .before .before .before .before .before .before .before .args .journal .now) (c .before .before .before .before .before .before .before .before .before .before .before .before .before .before .before .before .before .before .before .before .before .before .before .pre .1) (c .before .before .before .before .before .before .before .before .before .before .before .replay .result) _ (c .before .before .before .before .before .before .before .before .before .before .before .replay .ensures .0) (c .before .before .before .before .before .before .before .before .before .before .before .replay .ensures .1) (c .before .before .before .before .before .before .if2 .left)) (c .before .before .settle .ensures)
+    let a = c .before .before .before .before .before .before .before .before .before .before .before .before .before .before .before .before .before .before .before .before .before .before .before .args in
+    let pre = c .before .before .before .before .before .before .before .before .before .before .before .before .before .before .before .before .before .before .before .before .before .before .before .pre in
+    let read-record = c .before .before .before .before .before .before .before .before .before .before .before .before .before .before .before .before .before .before .read-record in
+    let fresh = c .before .before .before .before .before .before .before .before .before .before .before .before .before .before .fresh in
+    let replay = c .before .before .before .before .before .before .before .before .before .before .before .replay in
+    reopens-same _ _ _ _ _ (plays-on (a .bytes .now) (a .solution .now) (read-record .result) (read-record .ensures) (c .before .before .before .before .before .before .before .before .before .before .before .before .before .before .before .if1 .left) (are-bytes (a .bytes .now) (λ i u. omega (arith, c .before .before .before .before .before .before .before .before .before .before .before .before .before .before .before .before .before .before .before .before .before .before .shared-slice-known .given i))) (pre .0) (fresh .result) (fresh .ensures) (a .journal .now) (pre .1) (replay .result) _ (replay .ensures .0) (replay .ensures .1) (c .before .before .before .before .before .before .if2 .left)) (c .before .before .settle .ensures)
 
 pub reopened-spec : {M : Type 1} → statement M
 reopened-spec =

@@ -28,22 +28,25 @@ accepted-requires : tie.Need-accepted-requires Inv-loop μ-loop
 accepted-requires c κs = search needs
 
 loop-holds : tie.Need-loop-holds Inv-loop μ-loop
-loop-holds c = (
-  omega arith,
-  omega arith,
-  c .before .before .before .pre .3,
-  omega (arith, c .before .before .before .pre .2),
-  omega arith,
-  c .accepted .ensures,
-  ap (λ (n : ℕ). replay (c .before .before .before .args .board) (c .before .before .before .args .journal .now) 1 (movesAt (c .before .before .before .args .bytes .now) (c .before .before .before .args .start) n)) {x = c .before .before .before .args .count + 1 - 1} {y = c .before .before .before .args .count} (omega arith),
-)
+loop-holds c =
+    let pre = c .before .before .before .pre in
+    let a = c .before .before .before .args in (
+      omega arith,
+      omega arith,
+      pre .3,
+      omega (arith, pre .2),
+      omega arith,
+      c .accepted .ensures,
+      ap (λ (n : ℕ). replay (a .board) (a .journal .now) 1 (movesAt (a .bytes .now) (a .start) n)) {x = a .count + 1 - 1} {y = a .count} (omega arith),
+    )
 
 move-at-requires : tie.Need-move-at-requires Inv-loop μ-loop
 move-at-requires c κs = search needs
 
 perform-move-requires : tie.Need-perform-move-requires Inv-loop μ-loop
 perform-move-requires c κs =
-    (c .before .before .before .before .loop .inv .2, omega (arith, c .before .before .before .before .loop .inv .3, c .before .before .before .before .before .before .before .before .pre .1))
+    let turn = c .before .before .before .before .loop in
+    (turn .inv .2, omega (arith, turn .inv .3, c .before .before .before .before .before .before .before .before .pre .1))
 
 same-length : tie.Need-same-length Inv-loop μ-loop
 same-length c =
@@ -51,15 +54,20 @@ same-length c =
 
 returns : tie.Need-returns Inv-loop μ-loop
 returns c =
-    let stop = turn-stops (c .before .before .before .before .before .before .before .before .before .before .before .before .before .before .args .bytes .now) (c .before .before .before .before .before .before .before .before .before .before .loop .at) (c .before .before .before .before .before .before .before .before .before .before .loop .k) (c .before .before .before .before .before .before .before .before .before .before .before .before .before .before .args .count) (c .before .before .before .before .before .before .before .before .before .before .loop .answer .board) (c .before .before .before .before .before .before .before .before .before .before .loop .journal) (c .before .before .before .before .before .before .before .before .move-at .result) (c .before .before .before .before .before .before .before .before .move-at .ensures) (omega arith) (c .before .before .before .before .before .perform-move .result) _ (c .before .before .before .before .before .perform-move .ensures .0) (c .before .before .before .before .before .perform-move .ensures .1) (c .if1 .taken) in
-    (stop .0 ∙ ap (λ (x : Played). x .answer) (c .before .before .before .before .before .before .before .before .before .before .loop .inv .6), stop .1 ∙ ap (λ (x : Played). x .journal) (c .before .before .before .before .before .before .before .before .before .before .loop .inv .6))
+    let a = c .before .before .before .before .before .before .before .before .before .before .before .before .before .before .args in
+    let turn = c .before .before .before .before .before .before .before .before .before .before .loop in
+    let move-at = c .before .before .before .before .before .before .before .before .move-at in
+    let perform-move = c .before .before .before .before .before .perform-move in
+    let stop = turn-stops (a .bytes .now) (turn .at) (turn .k) (a .count) (turn .answer .board) (turn .journal) (move-at .result) (move-at .ensures) (omega arith) (perform-move .result) _ (perform-move .ensures .0) (perform-move .ensures .1) (c .if1 .taken) in
+    (stop .0 ∙ ap (λ (x : Played). x .answer) (turn .inv .6), stop .1 ∙ ap (λ (x : Played). x .journal) (turn .inv .6))
 
 move-length-requires : tie.Need-move-length-requires Inv-loop μ-loop
 move-length-requires c κs = search needs
 
 add-at : tie.Need-add-at Inv-loop μ-loop
 add-at c =
-    omega (arith, c .move-length .ensures .1, c .before .before .before .before .before .before .before .before .before .before .before .loop .inv .4, c .before .before .before .before .before .before .before .before .before .before .before .before .before .before .before .pre .0, c .before .before .before .before .before .before .before .before .before .before .before .before .before .before .before .pre .1, c .before .before .before .before .before .before .before .before .before .before .before .before .before .before .before .good .0 .1)
+    let pre = c .before .before .before .before .before .before .before .before .before .before .before .before .before .before .before .pre in
+    omega (arith, c .move-length .ensures .1, c .before .before .before .before .before .before .before .before .before .before .before .loop .inv .4, pre .0, pre .1, c .before .before .before .before .before .before .before .before .before .before .before .before .before .before .before .good .0 .1)
 
 add-k : tie.Need-add-k Inv-loop μ-loop
 add-k c = search needs
@@ -68,15 +76,20 @@ loop-less : tie.Need-loop-less Inv-loop μ-loop
 loop-less c = search needs
 
 loop-again : tie.Need-loop-again Inv-loop μ-loop
-loop-again c = (
-  omega arith,
-  omega arith,
-  omega (arith, c .before .before .before .before .before .before .perform-move .kept .1 .0, c .before .before .before .before .before .before .before .before .before .before .before .loop .inv .2),
-  omega (arith, turn-standing (c .before .before .before .before .before .before .before .before .before .before .before .before .before .before .before .args .bytes .now) (c .before .before .before .before .before .before .before .before .before .before .before .loop .at) (c .before .before .before .before .before .before .before .before .before .before .before .loop .k) (c .before .before .before .before .before .before .before .before .before .before .before .before .before .before .before .args .count) (c .before .before .before .before .before .before .before .before .before .before .before .loop .answer .board) (c .before .before .before .before .before .before .before .before .before .before .before .loop .journal) (c .before .before .before .before .before .before .before .before .before .move-at .result) (c .before .before .before .before .before .before .before .before .before .move-at .ensures) (omega arith) (c .before .before .before .before .before .before .perform-move .result) _ (c .before .before .before .before .before .before .perform-move .ensures .0) (c .before .before .before .before .before .before .perform-move .ensures .1), c .before .before .before .before .before .before .before .before .before .before .before .loop .inv .3),
-  omega (arith, c .move-length .ensures .1, c .before .before .before .before .before .before .before .before .before .before .before .loop .inv .4),
-  turn-accepted (c .before .before .before .before .before .before .before .before .before .before .before .before .before .before .before .args .bytes .now) (c .before .before .before .before .before .before .before .before .before .before .before .loop .at) (c .before .before .before .before .before .before .before .before .before .before .before .loop .k) (c .before .before .before .before .before .before .before .before .before .before .before .before .before .before .before .args .count) (c .before .before .before .before .before .before .before .before .before .before .before .loop .answer .board) (c .before .before .before .before .before .before .before .before .before .before .before .loop .journal) (c .before .before .before .before .before .before .before .before .before .move-at .result) (c .before .before .before .before .before .before .before .before .before .move-at .ensures) (omega arith) (c .before .before .before .before .before .before .perform-move .result) _ (c .before .before .before .before .before .before .perform-move .ensures .0) (c .before .before .before .before .before .before .perform-move .ensures .1) (c .before .if1 .left),
-  sym (turn-goes-on (c .before .before .before .before .before .before .before .before .before .before .before .before .before .before .before .args .bytes .now) (c .before .before .before .before .before .before .before .before .before .before .before .loop .at) (c .before .before .before .before .before .before .before .before .before .before .before .loop .k) (c .before .before .before .before .before .before .before .before .before .before .before .before .before .before .before .args .count) (c .before .before .before .before .before .before .before .before .before .before .before .loop .answer .board) (c .before .before .before .before .before .before .before .before .before .before .before .loop .journal) (c .before .before .before .before .before .before .before .before .before .move-at .result) (c .before .before .before .before .before .before .before .before .before .move-at .ensures) (omega arith) (c .before .before .before .before .before .before .perform-move .result) _ (c .before .before .before .before .before .before .perform-move .ensures .0) (c .before .before .before .before .before .before .perform-move .ensures .1) (c .before .if1 .left) (c .move-length .result) (c .move-length .ensures .0)) ∙ c .before .before .before .before .before .before .before .before .before .before .before .loop .inv .6,
-)
+loop-again c =
+    let a = c .before .before .before .before .before .before .before .before .before .before .before .before .before .before .before .args in
+    let turn = c .before .before .before .before .before .before .before .before .before .before .before .loop in
+    let move-at = c .before .before .before .before .before .before .before .before .before .move-at in
+    let perform-move = c .before .before .before .before .before .before .perform-move in
+    let move-length = c .move-length in (
+      omega arith,
+      omega arith,
+      omega (arith, perform-move .kept .1 .0, turn .inv .2),
+      omega (arith, turn-standing (a .bytes .now) (turn .at) (turn .k) (a .count) (turn .answer .board) (turn .journal) (move-at .result) (move-at .ensures) (omega arith) (perform-move .result) _ (perform-move .ensures .0) (perform-move .ensures .1), turn .inv .3),
+      omega (arith, move-length .ensures .1, turn .inv .4),
+      turn-accepted (a .bytes .now) (turn .at) (turn .k) (a .count) (turn .answer .board) (turn .journal) (move-at .result) (move-at .ensures) (omega arith) (perform-move .result) _ (perform-move .ensures .0) (perform-move .ensures .1) (c .before .if1 .left),
+      sym (turn-goes-on (a .bytes .now) (turn .at) (turn .k) (a .count) (turn .answer .board) (turn .journal) (move-at .result) (move-at .ensures) (omega arith) (perform-move .result) _ (perform-move .ensures .0) (perform-move .ensures .1) (c .before .if1 .left) (move-length .result) (move-length .ensures .0)) ∙ turn .inv .6,
+    )
 
 same-length-2 : tie.Need-same-length-2 Inv-loop μ-loop
 same-length-2 c =
@@ -84,8 +97,10 @@ same-length-2 c =
 
 returns-2 : tie.Need-returns-2 Inv-loop μ-loop
 returns-2 c =
-    let end = replay-ends (c .before .before .before .before .before .args .bytes .now) (c .before .loop .at) (c .before .loop .k) (c .before .before .before .before .before .args .count) (c .before .loop .answer) (c .before .loop .journal) (omega arith) (c .before .loop .inv .5) in
-    (end .0 ∙ ap (λ (x : Played). x .answer) (c .before .loop .inv .6), end .1 ∙ ap (λ (x : Played). x .journal) (c .before .loop .inv .6))
+    let a = c .before .before .before .before .before .args in
+    let turn = c .before .loop in
+    let end = replay-ends (a .bytes .now) (turn .at) (turn .k) (a .count) (turn .answer) (turn .journal) (omega arith) (turn .inv .5) in
+    (end .0 ∙ ap (λ (x : Played). x .answer) (turn .inv .6), end .1 ∙ ap (λ (x : Played). x .journal) (turn .inv .6))
 
 pub replay-spec : {M : Type 1} → statement M
 replay-spec =

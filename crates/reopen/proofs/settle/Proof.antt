@@ -25,7 +25,8 @@ refusal-requires c κs = search needs
 
 returns : tie.Need-returns
 returns c =
-    reopens-refused _ _ _ _ (refusal 30 0 0) (settled-30 (c .before .before .before .before .before .before .args .undone) (asksAt (c .before .before .before .before .before .before .args .bytes .now) (length (c .before .before .before .before .before .before .args .bytes .now) - 6 * c .before .before .before .before .before .before .args .count) (c .before .before .before .before .before .before .args .count)) (c .before .before .before .before .before .before .args .board) (c .before .before .before .before .before .before .args .journal .now) (sym (c .before .before .is-undone-solved .ensures) ∙ c .before .if1 .taken)) (c .refusal .ensures) (eqb-false 30 0 refl)
+    let a = c .before .before .before .before .before .before .args in
+    reopens-refused _ _ _ _ (refusal 30 0 0) (settled-30 (a .undone) (asksAt (a .bytes .now) (length (a .bytes .now) - 6 * a .count) (a .count)) (a .board) (a .journal .now) (sym (c .before .before .is-undone-solved .ensures) ∙ c .before .if1 .taken)) (c .refusal .ensures) (eqb-false 30 0 refl)
 
 take-back-all-requires : tie.Need-take-back-all-requires
 take-back-all-requires c κs = search needs
@@ -38,14 +39,18 @@ sub-read-checks c = search needs
 
 read-checks-requires : tie.Need-read-checks-requires
 read-checks-requires c κs =
-    (omega arith, c .before .before .before .before .before .before .before .pre .0, ap length (c .before .before .before .before .before .before .before .pre .2) ∙ no-checks-length)
+    let pre = c .before .before .before .before .before .before .before .pre in
+    (omega arith, pre .0, ap length (pre .2) ∙ no-checks-length)
 
 same-length : tie.Need-same-length
 same-length c = search needs
 
 returns-2 : tie.Need-returns-2
 returns-2 c =
-    reopens-refused _ _ _ _ (c .before .before .before .before .read-checks .result) (settled-refused (c .before .before .before .before .before .before .before .before .before .before .before .before .args .undone) (asksAt (c .before .before .before .before .before .before .before .before .before .before .before .before .args .bytes .now) (length (c .before .before .before .before .before .before .before .before .before .before .before .before .args .bytes .now) - 6 * c .before .before .before .before .before .before .before .before .before .before .before .before .args .count) (c .before .before .before .before .before .before .before .before .before .before .before .before .args .count)) (c .before .before .before .before .before .before .before .before .before .before .before .before .args .board) (c .before .before .before .before .before .before .before .before .before .before .before .before .args .journal .now) (sym (c .before .before .before .before .before .before .before .before .is-undone-solved .ensures) ∙ c .before .before .before .before .before .before .before .if1 .left) (c .before .before .before .before .before .before .take-back-all .result) (c .before .before .before .before .before .before .take-back-all .ensures) (c .before .before .before .before .read-checks .result) (c .before .before .before .before .read-checks .ensures .0) (c .if2 .taken)) refl (c .if2 .taken)
+    let a = c .before .before .before .before .before .before .before .before .before .before .before .before .args in
+    let take-back-all = c .before .before .before .before .before .before .take-back-all in
+    let read-checks = c .before .before .before .before .read-checks in
+    reopens-refused _ _ _ _ (read-checks .result) (settled-refused (a .undone) (asksAt (a .bytes .now) (length (a .bytes .now) - 6 * a .count) (a .count)) (a .board) (a .journal .now) (sym (c .before .before .before .before .before .before .before .before .is-undone-solved .ensures) ∙ c .before .before .before .before .before .before .before .if1 .left) (take-back-all .result) (take-back-all .ensures) (read-checks .result) (read-checks .ensures .0) (c .if2 .taken)) refl (c .if2 .taken)
 
 accepted-requires : tie.Need-accepted-requires
 accepted-requires c κs = search needs
@@ -56,10 +61,14 @@ same-length-2 c = search needs
 returns-3 : tie.Need-returns-3
 unfolding boardOf stateOf countsOf
 returns-3 c =
+    let a = c .before .before .before .before .before .before .before .before .before .before .before .before .before .args in
+    let take-back-all = c .before .before .before .before .before .before .before .take-back-all in
+    let read-checks = c .before .before .before .before .before .read-checks in
+    let accepted = c .accepted in
     reopens-given _ _ _ _
-    (settled-gives (c .before .before .before .before .before .before .before .before .before .before .before .before .before .args .undone) (asksAt (c .before .before .before .before .before .before .before .before .before .before .before .before .before .args .bytes .now) (length (c .before .before .before .before .before .before .before .before .before .before .before .before .before .args .bytes .now) - 6 * c .before .before .before .before .before .before .before .before .before .before .before .before .before .args .count) (c .before .before .before .before .before .before .before .before .before .before .before .before .before .args .count)) (c .before .before .before .before .before .before .before .before .before .before .before .before .before .args .board) (c .before .before .before .before .before .before .before .before .before .before .before .before .before .args .journal .now) (sym (c .before .before .before .before .before .before .before .before .before .is-undone-solved .ensures) ∙ c .before .before .before .before .before .before .before .before .if1 .left) (c .before .before .before .before .before .before .before .take-back-all .result) (c .before .before .before .before .before .before .before .take-back-all .ensures) (c .before .before .before .before .before .read-checks .result) (c .before .before .before .before .before .read-checks .ensures .0) (c .before .if2 .left) (c .accepted .result) (c .before .before .before .before .before .before .before .before .before .before .before .before .before .args .count) _ (c .accepted .ensures)
-    (sym (asks-length (c .before .before .before .before .before .before .before .before .before .before .before .before .before .args .bytes .now) (length (c .before .before .before .before .before .before .before .before .before .before .before .before .before .args .bytes .now) - 6 * c .before .before .before .before .before .before .before .before .before .before .before .before .before .args .count) (c .before .before .before .before .before .before .before .before .before .before .before .before .before .args .count)))
-    (c .before .before .before .before .before .read-checks .ensures .1 (c .before .if2 .left) ∙ ap (λ (l : List ℕ). over l 0 (storedOf (c .before .before .before .before .before .before .before .take-back-all .result .solution) (asksAt (c .before .before .before .before .before .before .before .before .before .before .before .before .before .args .bytes .now) (length (c .before .before .before .before .before .before .before .before .before .before .before .before .before .args .bytes .now) - 6 * c .before .before .before .before .before .before .before .before .before .before .before .before .before .args .count) (c .before .before .before .before .before .before .before .before .before .before .before .before .before .args .count)))) (c .before .before .before .before .before .before .before .before .before .before .before .before .before .pre .2)))
+    (settled-gives (a .undone) (asksAt (a .bytes .now) (length (a .bytes .now) - 6 * a .count) (a .count)) (a .board) (a .journal .now) (sym (c .before .before .before .before .before .before .before .before .before .is-undone-solved .ensures) ∙ c .before .before .before .before .before .before .before .before .if1 .left) (take-back-all .result) (take-back-all .ensures) (read-checks .result) (read-checks .ensures .0) (c .before .if2 .left) (accepted .result) (a .count) _ (accepted .ensures)
+    (sym (asks-length (a .bytes .now) (length (a .bytes .now) - 6 * a .count) (a .count)))
+    (read-checks .ensures .1 (c .before .if2 .left) ∙ ap (λ (l : List ℕ). over l 0 (storedOf (take-back-all .result .solution) (asksAt (a .bytes .now) (length (a .bytes .now) - 6 * a .count) (a .count)))) (c .before .before .before .before .before .before .before .before .before .before .before .before .before .pre .2)))
 
 pub settle-spec : {M : Type 1} → statement M
 settle-spec =

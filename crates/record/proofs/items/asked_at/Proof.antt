@@ -41,13 +41,15 @@ byte-at-requires-3 c κs = search needs
 returns : tie.Need-returns
 unfolding askedFrom
 returns c =
-    let behind = same-behind (c .before .before .before .before .before .before .args .bytes .now) (c .before .before .before .before .within .result) (c .before .before .before .before .before .before .args .at) (c .before .before .before .before .within .ensures .0) (c .before .before .before .before .within .ensures .1) (c .before .before .before .before .within .ensures .2) in
-    let on : c .before .before .before .before .within .result + 1 + 1 ≡ c .before .before .before .before .within .result + 2 = omega arith in
+    let a = c .before .before .before .before .before .before .args in
+    let within = c .before .before .before .before .within in
+    let behind = same-behind (a .bytes .now) (within .result) (a .at) (within .ensures .0) (within .ensures .1) (within .ensures .2) in
+    let on : within .result + 1 + 1 ≡ within .result + 2 = omega arith in
     λ j.
     record {
       standing =
           (c .before .before .before .two-at .ensures
-          ∙ (λ i. two (behind 1 i) ((ap (λ (k : ℕ). getD (c .before .before .before .before .before .before .args .bytes .now) k 0) on ∙ behind 2) i))) j;
+          ∙ (λ i. two (behind 1 i) ((ap (λ (k : ℕ). getD (a .bytes .now) k 0) on ∙ behind 2) i))) j;
       row = (c .before .before .byte-at .ensures ∙ behind 3) j;
       column = (c .before .byte-at2 .ensures ∙ behind 4) j;
       digit = (c .byte-at3 .ensures ∙ behind 5) j;

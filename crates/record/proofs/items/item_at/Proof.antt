@@ -60,32 +60,38 @@ enum-told-5 c = search needs
 returns : tie.Need-returns
 unfolding itemOf
 returns c =
-    (λ j. Whole (Given (c .before .before .byte-at .ensures j) (c .before .byte-at2 .ensures j) (c .byte-at3 .ensures j)) (c .before .before .before .before .before .before .args .next))
-    ∙ ap (itemOf (c .before .before .before .before .before .before .args .bytes .now) (c .before .before .before .before .before .before .args .at) (c .before .before .before .before .before .before .args .next)) (sym (c .before .before .before .enum-told .given .1))
+    let a = c .before .before .before .before .before .before .args in
+    (λ j. Whole (Given (c .before .before .byte-at .ensures j) (c .before .byte-at2 .ensures j) (c .byte-at3 .ensures j)) (a .next))
+    ∙ ap (itemOf (a .bytes .now) (a .at) (a .next)) (sym (c .before .before .before .enum-told .given .1))
 
 returns-2 : tie.Need-returns-2
 unfolding itemOf
 returns-2 c =
-    (λ j. Whole (Played (c .move-at .ensures j)) (c .before .before .before .before .args .next))
-    ∙ ap (itemOf (c .before .before .before .before .args .bytes .now) (c .before .before .before .before .args .at) (c .before .before .before .before .args .next)) (sym (c .before .enum-told2 .given .1))
+    let a = c .before .before .before .before .args in
+    (λ j. Whole (Played (c .move-at .ensures j)) (a .next))
+    ∙ ap (itemOf (a .bytes .now) (a .at) (a .next)) (sym (c .before .enum-told2 .given .1))
 
 returns-3 : tie.Need-returns-3
 unfolding itemOf
 returns-3 c =
-    let on : c .before .before .before .before .args .at + 1 + 1 ≡ c .before .before .before .before .args .at + 2 = omega arith in
-    (λ j. Whole (Undone ((c .two-at .ensures ∙ ap (λ (k : ℕ). two (getD (c .before .before .before .before .args .bytes .now) (c .before .before .before .before .args .at + 1) 0) (getD (c .before .before .before .before .args .bytes .now) k 0)) on) j)) (c .before .before .before .before .args .next))
-    ∙ ap (itemOf (c .before .before .before .before .args .bytes .now) (c .before .before .before .before .args .at) (c .before .before .before .before .args .next)) (sym (c .before .enum-told3 .given .1))
+    let a = c .before .before .before .before .args in
+    let on : a .at + 1 + 1 ≡ a .at + 2 = omega arith in
+    (λ j. Whole (Undone ((c .two-at .ensures ∙ ap (λ (k : ℕ). two (getD (a .bytes .now) (a .at + 1) 0) (getD (a .bytes .now) k 0)) on) j)) (a .next))
+    ∙ ap (itemOf (a .bytes .now) (a .at) (a .next)) (sym (c .before .enum-told3 .given .1))
 
 returns-4 : tie.Need-returns-4
 unfolding itemOf askedFrom
 returns-4 c =
-    (λ j. Whole (Check (c .asked-at .ensures j .standing) (c .asked-at .ensures j .row) (c .asked-at .ensures j .column) (c .asked-at .ensures j .digit)) (c .before .before .before .before .args .next))
-    ∙ ap (itemOf (c .before .before .before .before .args .bytes .now) (c .before .before .before .before .args .at) (c .before .before .before .before .args .next)) (sym (c .before .enum-told4 .given .1))
+    let a = c .before .before .before .before .args in
+    let asked-at = c .asked-at in
+    (λ j. Whole (Check (asked-at .ensures j .standing) (asked-at .ensures j .row) (asked-at .ensures j .column) (asked-at .ensures j .digit)) (a .next))
+    ∙ ap (itemOf (a .bytes .now) (a .at) (a .next)) (sym (c .before .enum-told4 .given .1))
 
 returns-5 : tie.Need-returns-5
 unfolding itemOf
 returns-5 c =
-    ap (itemOf (c .before .before .before .args .bytes .now) (c .before .before .before .args .at) (c .before .before .before .args .next)) (sym (c .enum-told5 .given .1))
+    let a = c .before .before .before .args in
+    ap (itemOf (a .bytes .now) (a .at) (a .next)) (sym (c .enum-told5 .given .1))
 
 pub item-at-spec : {M : Type 1} → statement M
 item-at-spec =

@@ -38,8 +38,10 @@ move-of-requires c κs = search needs
 returns : tie.Need-returns
 unfolding moveAt
 returns c =
-    let here = same-here (c .before .before .before .before .before .before .before .args .bytes .now) (c .before .before .before .before .before .within .result) (c .before .before .before .before .before .before .before .args .at) (c .before .before .before .before .before .within .ensures .0) (c .before .before .before .before .before .within .ensures .1) (c .before .before .before .before .before .within .ensures .2) in
-    let behind = same-behind (c .before .before .before .before .before .before .before .args .bytes .now) (c .before .before .before .before .before .within .result) (c .before .before .before .before .before .before .before .args .at) (c .before .before .before .before .before .within .ensures .0) (c .before .before .before .before .before .within .ensures .1) (c .before .before .before .before .before .within .ensures .2) in
+    let a = c .before .before .before .before .before .before .before .args in
+    let within = c .before .before .before .before .before .within in
+    let here = same-here (a .bytes .now) (within .result) (a .at) (within .ensures .0) (within .ensures .1) (within .ensures .2) in
+    let behind = same-behind (a .bytes .now) (within .result) (a .at) (within .ensures .0) (within .ensures .1) (within .ensures .2) in
     c .move-of .ensures
     ∙ (λ j.
     moveOf

@@ -1,8 +1,6 @@
 -- `record::items::read_item` meets its contract: past the end nothing stands, an item whose body ends too late is cut short, any other is what its group says.
 -- Assumes nothing.
-use mathlib.Core.Path.{_≡_, sym, ap, _∙_}
-use lib.ListN.{getD}
-use Rattle.record.specs.declared.Shape.{Shape}
+use mathlib.Core.Path.{sym, ap, _∙_}
 use Rattle.record.specs.Counting.{shapeOf}
 use Rattle.record.proofs.KindBytes.{read-past, read-short, read-whole}
 use Rattle.record.proofs.items.read_item.Statement.{statement}
@@ -11,7 +9,8 @@ use borrow.Author.Needs.{needs}
 
 returns : tie.Need-returns
 returns c =
-    sym (read-past (c .before .before .args .bytes .now) (c .before .before .args .at) (c .if1 .taken))
+    let a = c .before .before .args in
+    sym (read-past (a .bytes .now) (a .at) (c .if1 .taken))
 
 byte-at-requires : tie.Need-byte-at-requires
 byte-at-requires c κs = search needs
@@ -24,7 +23,9 @@ sub-if2 c = search needs
 
 returns-2 : tie.Need-returns-2
 returns-2 c =
-    sym (read-short (c .before .before .before .before .before .args .bytes .now) (c .before .before .before .before .before .args .at) (c .before .before .before .if1 .left) (c .before .shape .result) (c .before .shape .ensures ∙ ap shapeOf (c .before .before .byte-at .ensures)) (c .if2 .taken))
+    let a = c .before .before .before .before .before .args in
+    let shape = c .before .shape in
+    sym (read-short (a .bytes .now) (a .at) (c .before .before .before .if1 .left) (shape .result) (shape .ensures ∙ ap shapeOf (c .before .before .byte-at .ensures)) (c .if2 .taken))
 
 add-item-at : tie.Need-add-item-at
 add-item-at c = search needs
@@ -37,8 +38,10 @@ item-at-requires c κs = search needs
 
 returns-3 : tie.Need-returns-3
 returns-3 c =
+    let a = c .before .before .before .before .before .before .args in
+    let shape = c .before .before .shape in
     c .item-at .ensures
-    ∙ read-whole (c .before .before .before .before .before .before .args .bytes .now) (c .before .before .before .before .before .before .args .at) (c .before .before .before .before .if1 .left) (c .before .before .shape .result) (c .before .before .shape .ensures ∙ ap shapeOf (c .before .before .before .byte-at .ensures)) (c .before .if2 .left)
+    ∙ read-whole (a .bytes .now) (a .at) (c .before .before .before .before .if1 .left) (shape .result) (shape .ensures ∙ ap shapeOf (c .before .before .before .byte-at .ensures)) (c .before .if2 .left)
 
 pub read-item-spec : {M : Type 1} → statement M
 read-item-spec =

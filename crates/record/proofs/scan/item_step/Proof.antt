@@ -34,22 +34,26 @@ check-step-requires c κs = search needs
 returns : tie.Need-returns
 unfolding itemStep
 returns c =
-    c .given-step .ensures ∙ ap (λ (i : Item). itemStep (c .before .before .before .args .state) i (c .before .before .before .args .next)) (sym (c .before .enum-told .given .1))
+    let a = c .before .before .before .args in
+    c .given-step .ensures ∙ ap (λ (i : Item). itemStep (a .state) i (a .next)) (sym (c .before .enum-told .given .1))
 
 returns-2 : tie.Need-returns-2
 unfolding itemStep
 returns-2 c =
-    c .move-step .ensures ∙ ap (λ (i : Item). itemStep (c .before .before .before .args .state) i (c .before .before .before .args .next)) (sym (c .before .enum-told2 .given .1))
+    let a = c .before .before .before .args in
+    c .move-step .ensures ∙ ap (λ (i : Item). itemStep (a .state) i (a .next)) (sym (c .before .enum-told2 .given .1))
 
 returns-3 : tie.Need-returns-3
 unfolding itemStep
 returns-3 c =
-    c .undone-step .ensures ∙ ap (λ (i : Item). itemStep (c .before .before .before .before .args .state) i (c .before .before .before .before .args .next)) (sym (c .before .before .item .given .1))
+    let a = c .before .before .before .before .args in
+    c .undone-step .ensures ∙ ap (λ (i : Item). itemStep (a .state) i (a .next)) (sym (c .before .before .item .given .1))
 
 returns-4 : tie.Need-returns-4
 unfolding itemStep
 returns-4 c =
-    c .check-step .ensures ∙ ap (λ (i : Item). itemStep (c .before .before .before .before .args .state) i (c .before .before .before .before .args .next)) (sym (c .before .before .item2 .given .1))
+    let a = c .before .before .before .before .args in
+    c .check-step .ensures ∙ ap (λ (i : Item). itemStep (a .state) i (a .next)) (sym (c .before .before .item2 .given .1))
 
 pub item-step-spec : {M : Type 1} → statement M
 item-step-spec =

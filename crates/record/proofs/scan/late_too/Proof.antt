@@ -2,10 +2,9 @@
 -- Assumes nothing.
 use Prim.Native.Nat.{ℕ}
 use mathlib.Core.Path.{_≡_, sym, ap, _∙_}
-use mathlib.Core.Bool.{Bool, not}
+use mathlib.Core.Bool.{not}
 use borrow.Author.Tests.{leb-true, leb-false, lt-ltb, le-ltb}
 use lib.Dec.{leb, ltb}
-use Rattle.sudoku.specs.Tests.{either}
 use Rattle.sudoku.proofs.Walks.{by-test, either-left, either-second}
 use Rattle.record.proofs.scan.late_too.Statement.{statement}
 use Rattle.record.proofs.scan.late_too.Tie as tie

@@ -17,11 +17,15 @@ refused-requires c κs = search needs
 
 returns : tie.Need-returns
 returns c =
-    c .refused .ensures ∙ not-read (c .before .before .before .before .before .before .before .args .bytes .now) (c .before .before .before .before .before .before .before .args .solution .now) (c .before .before .before .unreadable .result) (c .before .before .before .unreadable .ensures) (c .before .if1 .taken)
+    let a = c .before .before .before .before .before .before .before .args in
+    let unreadable = c .before .before .before .unreadable in
+    c .refused .ensures ∙ not-read (a .bytes .now) (a .solution .now) (unreadable .result) (unreadable .ensures) (c .before .if1 .taken)
 
 returns-2 : tie.Need-returns-2
 returns-2 c =
-    c .before .before .before .scan .ensures ∙ is-read (c .before .before .before .before .before .before .args .bytes .now) (c .before .before .before .before .before .before .args .solution .now) (c .before .before .unreadable .result) (c .before .before .unreadable .ensures) (c .if1 .left)
+    let a = c .before .before .before .before .before .before .args in
+    let unreadable = c .before .before .unreadable in
+    c .before .before .before .scan .ensures ∙ is-read (a .bytes .now) (a .solution .now) (unreadable .result) (unreadable .ensures) (c .if1 .left)
 
 pub read-record-spec : {M : Type 1} → statement M
 read-record-spec =

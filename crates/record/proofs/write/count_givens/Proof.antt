@@ -39,6 +39,7 @@ loop-less c = search needs
 
 loop-again : tie.Need-loop-again Inv-loop μ-loop
 loop-again c =
+    let is-given = c .before .is-given in
     let f = isGiven (givensOnly (c .before .before .before .before .args .given .now)) in
     let turn = c .before .before .before .loop in
     let u : turn .cell < 82 = omega arith in
@@ -47,13 +48,13 @@ loop-again c =
       omega arith,
       omega arith,
       omega arith,
-      rw (w .1) (turn .inv .3 ∙ count-more f 82 (turn .cell) (turn .n) u (sym (c .before .is-given .ensures) ∙ w .0 .taken)),
+      rw (w .1) (turn .inv .3 ∙ count-more f 82 (turn .cell) (turn .n) u (sym (is-given .ensures) ∙ w .0 .taken)),
     ))
     (λ w. (
       omega arith,
       omega arith,
       omega arith,
-      rw (w .1, ← count-skips f 82 (turn .cell) u (sym (c .before .is-given .ensures) ∙ w .0 .left)) (turn .inv .3),
+      rw (w .1, ← count-skips f 82 (turn .cell) u (sym (is-given .ensures) ∙ w .0 .left)) (turn .inv .3),
     ))
     (c .if1 .came)
 

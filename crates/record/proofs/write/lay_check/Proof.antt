@@ -1,7 +1,7 @@
 -- `record::write::lay_check` meets its contract: the kind byte, and five of the check's six bytes as they are stored.
 -- Assumes nothing.
-use Prim.Native.Nat.{ℕ, _*_, _+_}
-use mathlib.Core.Path.{_≡_, ap, _∙_}
+use Prim.Native.Nat.{ℕ, _*_}
+use mathlib.Core.Path.{ap, _∙_}
 use mathlib.Core.List.{[], _∷_}
 use native.Mathlib.Omega.{arith}
 use Rattle.journal.specs.Bytes.{over}
@@ -56,18 +56,27 @@ same-length c = search needs
 returns : tie.Need-returns
 unfolding checkStart
 returns c =
-    let start = 6 * c .before .before .before .before .before .before .before .before .before .before .before .before .before .index-of .result in
-    let row = c .before .before .before .before .before .before .before .before .before .before .byte-at3 .result in
-    let column = c .before .before .before .before .before .before .before .before .before .byte-at4 .result in
-    let digit = c .before .before .before .before .before .before .before .before .byte-at5 .result in (
-      omega (arith, c .before .before .lay-three2 .ensures .0, c .before .before .before .before .before .before .lay-three .ensures .0),
-      c .before .before .lay-three2 .ensures .1
-          ∙ (λ j. over (c .before .before .before .before .before .before .lay-three .ensures .1 j) (c .before .before .before .before .before .before .lay-three .ensures .0 j) (row ∷ column ∷ digit ∷ []))
-          ∙ six-laid (c .before .before .before .before .before .before .before .before .before .before .before .before .before .before .before .before .args .output .now) (c .before .before .before .before .before .before .before .before .before .before .before .before .before .before .before .before .args .at) 7 (c .before .before .before .before .before .before .before .before .before .before .before .before .byte-at .result) (c .before .before .before .before .before .before .before .before .before .before .before .byte-at2 .result) row column digit (c .before .before .before .before .before .before .before .before .before .before .before .before .before .before .before .before .pre .1)
-          ∙ ap (over (c .before .before .before .before .before .before .before .before .before .before .before .before .before .before .before .before .args .output .now) (c .before .before .before .before .before .before .before .before .before .before .before .before .before .before .before .before .args .at))
-          (check-bytes (c .before .before .before .before .before .before .before .before .before .before .before .before .before .before .before .before .args .checks .now) (c .before .before .before .before .before .before .before .before .before .before .before .before .before .before .before .before .args .n) start (ap (λ (k : ℕ). 6 * k) (c .before .before .before .before .before .before .before .before .before .before .before .before .before .index-of .ensures))
-          (λ i. omega (arith, c .before .before .before .before .before .before .before .before .before .before .before .before .before .before .before .shared-slice-known .given i)) (c .before .before .before .before .before .before .before .before .before .before .before .before .byte-at .result) (c .before .before .before .before .before .before .before .before .before .before .before .byte-at2 .result) row column digit (c .before .before .before .before .before .before .before .before .before .before .before .before .byte-at .ensures)
-          (c .before .before .before .before .before .before .before .before .before .before .before .byte-at2 .ensures) (c .before .before .before .before .before .before .before .before .before .before .byte-at3 .ensures) (c .before .before .before .before .before .before .before .before .before .byte-at4 .ensures) (c .before .before .before .before .before .before .before .before .byte-at5 .ensures)),
+    let a = c .before .before .before .before .before .before .before .before .before .before .before .before .before .before .before .before .args in
+    let index-of = c .before .before .before .before .before .before .before .before .before .before .before .before .before .index-of in
+    let byte-at = c .before .before .before .before .before .before .before .before .before .before .before .before .byte-at in
+    let byte-at2 = c .before .before .before .before .before .before .before .before .before .before .before .byte-at2 in
+    let byte-at3 = c .before .before .before .before .before .before .before .before .before .before .byte-at3 in
+    let byte-at4 = c .before .before .before .before .before .before .before .before .before .byte-at4 in
+    let byte-at5 = c .before .before .before .before .before .before .before .before .byte-at5 in
+    let lay-three = c .before .before .before .before .before .before .lay-three in
+    let lay-three2 = c .before .before .lay-three2 in
+    let start = 6 * index-of .result in
+    let row = byte-at3 .result in
+    let column = byte-at4 .result in
+    let digit = byte-at5 .result in (
+      omega (arith, lay-three2 .ensures .0, lay-three .ensures .0),
+      lay-three2 .ensures .1
+          ∙ (λ j. over (lay-three .ensures .1 j) (lay-three .ensures .0 j) (row ∷ column ∷ digit ∷ []))
+          ∙ six-laid (a .output .now) (a .at) 7 (byte-at .result) (byte-at2 .result) row column digit (c .before .before .before .before .before .before .before .before .before .before .before .before .before .before .before .before .pre .1)
+          ∙ ap (over (a .output .now) (a .at))
+          (check-bytes (a .checks .now) (a .n) start (ap (λ (k : ℕ). 6 * k) (index-of .ensures))
+          (λ i. omega (arith, c .before .before .before .before .before .before .before .before .before .before .before .before .before .before .before .shared-slice-known .given i)) (byte-at .result) (byte-at2 .result) row column digit (byte-at .ensures)
+          (byte-at2 .ensures) (byte-at3 .ensures) (byte-at4 .ensures) (byte-at5 .ensures)),
     )
 
 pub lay-check-spec : {M : Type 1} → statement M

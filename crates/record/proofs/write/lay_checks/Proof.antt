@@ -23,12 +23,15 @@ abbrev μ-loop : tie.MeasureT-loop
 
 loop-holds : tie.Need-loop-holds Inv-loop μ-loop
 loop-holds c =
-    (omega arith, omega arith, laying-start (c .before .before .args .output .now) (c .before .before .args .start) (itemsLeft checkItem (askedAt (c .before .before .args .checks .now)) (c .before .before .args .count + 1) 1) (omega (arith, c .before .before .pre .1, ap length (checks-left (c .before .before .args .checks .now) (c .before .before .args .count)))))
+    let a = c .before .before .args in
+    (omega arith, omega arith, laying-start (a .output .now) (a .start) (itemsLeft checkItem (askedAt (a .checks .now)) (a .count + 1) 1) (omega (arith, c .before .before .pre .1, ap length (checks-left (a .checks .now) (a .count)))))
 
 lay-check-requires : tie.Need-lay-check-requires Inv-loop μ-loop
 unfolding encode checkItem
 lay-check-requires c κs =
-    (omega arith, laying-room _ _ _ _ _ _ (c .before .before .loop .inv .2) (encode (checkItem (askedAt (c .before .before .before .before .before .args .checks .now) (c .before .before .loop .n)))) (itemsLeft checkItem (askedAt (c .before .before .before .before .before .args .checks .now)) (c .before .before .before .before .before .args .count + 1) (c .before .before .loop .n + 1)) (items-turn checkItem (askedAt (c .before .before .before .before .before .args .checks .now)) (c .before .before .before .before .before .args .count + 1) (c .before .before .loop .n) (omega arith)))
+    let a = c .before .before .before .before .before .args in
+    let turn = c .before .before .loop in
+    (omega arith, laying-room _ _ _ _ _ _ (turn .inv .2) (encode (checkItem (askedAt (a .checks .now) (turn .n)))) (itemsLeft checkItem (askedAt (a .checks .now)) (a .count + 1) (turn .n + 1)) (items-turn checkItem (askedAt (a .checks .now)) (a .count + 1) (turn .n) (omega arith)))
 
 add-n : tie.Need-add-n Inv-loop μ-loop
 add-n c = search needs
@@ -39,7 +42,10 @@ loop-less c = search needs
 loop-again : tie.Need-loop-again Inv-loop μ-loop
 unfolding encode checkItem
 loop-again c =
-    (omega arith, omega arith, laying-more _ _ _ _ _ _ (c .before .before .before .before .before .loop .inv .2) (encode (checkItem (askedAt (c .before .before .before .before .before .before .before .before .args .checks .now) (c .before .before .before .before .before .loop .n)))) (itemsLeft checkItem (askedAt (c .before .before .before .before .before .before .before .before .args .checks .now)) (c .before .before .before .before .before .before .before .before .args .count + 1) (c .before .before .before .before .before .loop .n + 1)) _ _ (items-turn checkItem (askedAt (c .before .before .before .before .before .before .before .before .args .checks .now)) (c .before .before .before .before .before .before .before .before .args .count + 1) (c .before .before .before .before .before .loop .n) (omega arith)) (c .before .before .lay-check .ensures .0) (c .before .before .lay-check .ensures .1))
+    let a = c .before .before .before .before .before .before .before .before .args in
+    let turn = c .before .before .before .before .before .loop in
+    let lay-check = c .before .before .lay-check in
+    (omega arith, omega arith, laying-more _ _ _ _ _ _ (turn .inv .2) (encode (checkItem (askedAt (a .checks .now) (turn .n)))) (itemsLeft checkItem (askedAt (a .checks .now)) (a .count + 1) (turn .n + 1)) _ _ (items-turn checkItem (askedAt (a .checks .now)) (a .count + 1) (turn .n) (omega arith)) (lay-check .ensures .0) (lay-check .ensures .1))
 
 same-length : tie.Need-same-length Inv-loop μ-loop
 same-length c =
@@ -47,9 +53,11 @@ same-length c =
 
 returns : tie.Need-returns Inv-loop μ-loop
 returns c =
-    let end = laying-end _ _ _ _ _ _ (c .before .loop .inv .2) (items-none checkItem (askedAt (c .before .before .before .before .args .checks .now)) (c .before .before .before .before .args .count + 1) (c .before .loop .n) (omega arith)) in
-    let all = checks-left (c .before .before .before .before .args .checks .now) (c .before .before .before .before .args .count) in
-    (omega (arith, end .0, ap length all), end .1 ∙ ap (over (c .before .before .before .before .args .output .now) (c .before .before .before .before .args .start)) (sym all))
+    let a = c .before .before .before .before .args in
+    let turn = c .before .loop in
+    let end = laying-end _ _ _ _ _ _ (turn .inv .2) (items-none checkItem (askedAt (a .checks .now)) (a .count + 1) (turn .n) (omega arith)) in
+    let all = checks-left (a .checks .now) (a .count) in
+    (omega (arith, end .0, ap length all), end .1 ∙ ap (over (a .output .now) (a .start)) (sym all))
 
 pub lay-checks-spec : {M : Type 1} → statement M
 lay-checks-spec =

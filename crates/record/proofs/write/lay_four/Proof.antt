@@ -42,7 +42,8 @@ same-length c =
 
 returns : tie.Need-returns
 returns c =
-    (refl, stored (c .args .output .now) (c .args .at) (c .args .a) (c .args .b ∷ c .args .c ∷ c .args .d ∷ []) (omega arith) ∙ laid-over (c .args .output .now) (c .args .at) (c .args .a ∷ c .args .b ∷ c .args .c ∷ c .args .d ∷ []) (omega arith))
+    let a = c .args in
+    (refl, stored (a .output .now) (a .at) (a .a) (a .b ∷ a .c ∷ a .d ∷ []) (omega arith) ∙ laid-over (a .output .now) (a .at) (a .a ∷ a .b ∷ a .c ∷ a .d ∷ []) (omega arith))
 
 pub lay-four-spec : {M : Type 1} → statement M
 lay-four-spec =

@@ -22,8 +22,9 @@ is-given-requires c κs = search needs
 returns : tie.Need-returns
 unfolding givenBytes
 returns c =
-    let none : givenBytes (c .before .before .before .args .given .now) (c .before .before .before .args .digits .now) (c .before .before .before .args .cell) ≡ [] = pick-false (isGiven (givensOnly (c .before .before .before .args .given .now)) (c .before .before .before .args .cell)) (1 ∷ rowOf (c .before .before .before .args .cell) ∷ columnOf (c .before .before .before .args .cell) ∷ at (c .before .before .before .args .digits .now) (c .before .before .before .args .cell) ∷ []) [] (sym (c .before .is-given .ensures) ∙ not-true _ (c .if1 .taken)) in
-    (omega (arith, ap length none), sym (over-nil (c .before .before .before .args .output .now) (c .before .before .before .args .at)) ∙ ap (over (c .before .before .before .args .output .now) (c .before .before .before .args .at)) (sym none))
+    let a = c .before .before .before .args in
+    let none : givenBytes (a .given .now) (a .digits .now) (a .cell) ≡ [] = pick-false (isGiven (givensOnly (a .given .now)) (a .cell)) (1 ∷ rowOf (a .cell) ∷ columnOf (a .cell) ∷ at (a .digits .now) (a .cell) ∷ []) [] (sym (c .before .is-given .ensures) ∙ not-true _ (c .if1 .taken)) in
+    (omega (arith, ap length none), sym (over-nil (a .output .now) (a .at)) ∙ ap (over (a .output .now) (a .at)) (sym none))
 
 row-of-requires : tie.Need-row-of-requires
 row-of-requires c κs = search needs
@@ -45,7 +46,8 @@ digit-at-requires c κs = search needs
 lay-four-requires : tie.Need-lay-four-requires
 unfolding givenBytes
 lay-four-requires c κs =
-    let item : givenBytes (c .before .before .before .before .before .before .before .args .given .now) (c .before .before .before .before .before .before .before .args .digits .now) (c .before .before .before .before .before .before .before .args .cell) ≡ (1 ∷ rowOf (c .before .before .before .before .before .before .before .args .cell) ∷ columnOf (c .before .before .before .before .before .before .before .args .cell) ∷ at (c .before .before .before .before .before .before .before .args .digits .now) (c .before .before .before .before .before .before .before .args .cell) ∷ []) = pick-true (isGiven (givensOnly (c .before .before .before .before .before .before .before .args .given .now)) (c .before .before .before .before .before .before .before .args .cell)) (1 ∷ rowOf (c .before .before .before .before .before .before .before .args .cell) ∷ columnOf (c .before .before .before .before .before .before .before .args .cell) ∷ at (c .before .before .before .before .before .before .before .args .digits .now) (c .before .before .before .before .before .before .before .args .cell) ∷ []) [] (sym (c .before .before .before .before .before .is-given .ensures) ∙ not-false _ (c .before .before .before .before .if1 .left)) in
+    let a = c .before .before .before .before .before .before .before .args in
+    let item : givenBytes (a .given .now) (a .digits .now) (a .cell) ≡ (1 ∷ rowOf (a .cell) ∷ columnOf (a .cell) ∷ at (a .digits .now) (a .cell) ∷ []) = pick-true (isGiven (givensOnly (a .given .now)) (a .cell)) (1 ∷ rowOf (a .cell) ∷ columnOf (a .cell) ∷ at (a .digits .now) (a .cell) ∷ []) [] (sym (c .before .before .before .before .before .is-given .ensures) ∙ not-false _ (c .before .before .before .before .if1 .left)) in
     omega (arith, ap length item, c .before .before .before .before .before .before .before .pre .1)
 
 same-length : tie.Need-same-length
@@ -54,11 +56,13 @@ same-length c = search needs
 returns-2 : tie.Need-returns-2
 unfolding givenBytes
 returns-2 c =
-    let item : givenBytes (c .before .before .before .before .before .before .before .before .before .before .args .given .now) (c .before .before .before .before .before .before .before .before .before .before .args .digits .now) (c .before .before .before .before .before .before .before .before .before .before .args .cell) ≡ (1 ∷ rowOf (c .before .before .before .before .before .before .before .before .before .before .args .cell) ∷ columnOf (c .before .before .before .before .before .before .before .before .before .before .args .cell) ∷ at (c .before .before .before .before .before .before .before .before .before .before .args .digits .now) (c .before .before .before .before .before .before .before .before .before .before .args .cell) ∷ []) = pick-true (isGiven (givensOnly (c .before .before .before .before .before .before .before .before .before .before .args .given .now)) (c .before .before .before .before .before .before .before .before .before .before .args .cell)) (1 ∷ rowOf (c .before .before .before .before .before .before .before .before .before .before .args .cell) ∷ columnOf (c .before .before .before .before .before .before .before .before .before .before .args .cell) ∷ at (c .before .before .before .before .before .before .before .before .before .before .args .digits .now) (c .before .before .before .before .before .before .before .before .before .before .args .cell) ∷ []) [] (sym (c .before .before .before .before .before .before .before .before .is-given .ensures) ∙ not-false _ (c .before .before .before .before .before .before .before .if1 .left)) in (
-      c .before .before .lay-four .ensures .0 ∙ ap (λ (l : List ℕ). c .before .before .before .before .before .before .before .before .before .before .args .at + length l) (sym item),
-      c .before .before .lay-four .ensures .1
-          ∙ (λ j. over (c .before .before .before .before .before .before .before .before .before .before .args .output .now) (c .before .before .before .before .before .before .before .before .before .before .args .at) (1 ∷ c .before .before .before .before .before .before .row-of .ensures j ∷ c .before .before .before .before .before .column-of .ensures .0 j ∷ c .before .before .before .digit-at .ensures j ∷ []))
-          ∙ ap (over (c .before .before .before .before .before .before .before .before .before .before .args .output .now) (c .before .before .before .before .before .before .before .before .before .before .args .at)) (sym item),
+    let a = c .before .before .before .before .before .before .before .before .before .before .args in
+    let lay-four = c .before .before .lay-four in
+    let item : givenBytes (a .given .now) (a .digits .now) (a .cell) ≡ (1 ∷ rowOf (a .cell) ∷ columnOf (a .cell) ∷ at (a .digits .now) (a .cell) ∷ []) = pick-true (isGiven (givensOnly (a .given .now)) (a .cell)) (1 ∷ rowOf (a .cell) ∷ columnOf (a .cell) ∷ at (a .digits .now) (a .cell) ∷ []) [] (sym (c .before .before .before .before .before .before .before .before .is-given .ensures) ∙ not-false _ (c .before .before .before .before .before .before .before .if1 .left)) in (
+      lay-four .ensures .0 ∙ ap (λ (l : List ℕ). a .at + length l) (sym item),
+      lay-four .ensures .1
+          ∙ (λ j. over (a .output .now) (a .at) (1 ∷ c .before .before .before .before .before .before .row-of .ensures j ∷ c .before .before .before .before .before .column-of .ensures .0 j ∷ c .before .before .before .digit-at .ensures j ∷ []))
+          ∙ ap (over (a .output .now) (a .at)) (sym item),
     )
 
 pub lay-given-spec : {M : Type 1} → statement M

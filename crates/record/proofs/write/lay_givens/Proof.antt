@@ -21,11 +21,14 @@ abbrev μ-loop : tie.MeasureT-loop
 
 loop-holds : tie.Need-loop-holds Inv-loop μ-loop
 loop-holds c =
-    (omega arith, omega arith, laying-start (c .before .args .output .now) 0 (givensLeft (c .before .args .t1) 1) (omega (arith, c .before .pre, ap length (givens-all (c .before .args .t1)))))
+    let a = c .before .args in
+    (omega arith, omega arith, laying-start (a .output .now) 0 (givensLeft (a .t1) 1) (omega (arith, c .before .pre, ap length (givens-all (a .t1)))))
 
 lay-given-requires : tie.Need-lay-given-requires Inv-loop μ-loop
 lay-given-requires c κs =
-    (omega arith, laying-room _ _ _ _ _ _ (c .before .before .before .before .before .loop .inv .2) (givenBytes (c .before .before .before .before .before .before .before .args .t1 .given) (c .before .before .before .before .before .before .before .args .t1 .digits) (c .before .before .before .before .before .loop .cell)) (givensLeft (c .before .before .before .before .before .before .before .args .t1) (c .before .before .before .before .before .loop .cell + 1)) (givens-turn (c .before .before .before .before .before .before .before .args .t1) (c .before .before .before .before .before .loop .cell) (omega arith)))
+    let a = c .before .before .before .before .before .before .before .args in
+    let turn = c .before .before .before .before .before .loop in
+    (omega arith, laying-room _ _ _ _ _ _ (turn .inv .2) (givenBytes (a .t1 .given) (a .t1 .digits) (turn .cell)) (givensLeft (a .t1) (turn .cell + 1)) (givens-turn (a .t1) (turn .cell) (omega arith)))
 
 add-cell : tie.Need-add-cell Inv-loop μ-loop
 add-cell c = search needs
@@ -35,7 +38,10 @@ loop-less c = search needs
 
 loop-again : tie.Need-loop-again Inv-loop μ-loop
 loop-again c =
-    (omega arith, omega arith, laying-more _ _ _ _ _ _ (c .before .before .before .before .before .before .before .before .loop .inv .2) (givenBytes (c .before .before .before .before .before .before .before .before .before .before .args .t1 .given) (c .before .before .before .before .before .before .before .before .before .before .args .t1 .digits) (c .before .before .before .before .before .before .before .before .loop .cell)) (givensLeft (c .before .before .before .before .before .before .before .before .before .before .args .t1) (c .before .before .before .before .before .before .before .before .loop .cell + 1)) _ _ (givens-turn (c .before .before .before .before .before .before .before .before .before .before .args .t1) (c .before .before .before .before .before .before .before .before .loop .cell) (omega arith)) (c .before .before .lay-given .ensures .0) (c .before .before .lay-given .ensures .1))
+    let a = c .before .before .before .before .before .before .before .before .before .before .args in
+    let turn = c .before .before .before .before .before .before .before .before .loop in
+    let lay-given = c .before .before .lay-given in
+    (omega arith, omega arith, laying-more _ _ _ _ _ _ (turn .inv .2) (givenBytes (a .t1 .given) (a .t1 .digits) (turn .cell)) (givensLeft (a .t1) (turn .cell + 1)) _ _ (givens-turn (a .t1) (turn .cell) (omega arith)) (lay-given .ensures .0) (lay-given .ensures .1))
 
 same-length : tie.Need-same-length Inv-loop μ-loop
 same-length c =
@@ -43,8 +49,10 @@ same-length c =
 
 returns : tie.Need-returns Inv-loop μ-loop
 returns c =
-    let end = laying-end _ _ _ _ _ _ (c .before .loop .inv .2) (givens-none (c .before .before .before .args .t1) (c .before .loop .cell) (omega arith)) in
-    (omega (arith, end .0, ap length (givens-all (c .before .before .before .args .t1))), end .1 ∙ ap (over (c .before .before .before .args .output .now) 0) (sym (givens-all (c .before .before .before .args .t1))))
+    let a = c .before .before .before .args in
+    let turn = c .before .loop in
+    let end = laying-end _ _ _ _ _ _ (turn .inv .2) (givens-none (a .t1) (turn .cell) (omega arith)) in
+    (omega (arith, end .0, ap length (givens-all (a .t1))), end .1 ∙ ap (over (a .output .now) 0) (sym (givens-all (a .t1))))
 
 pub lay-givens-spec : {M : Type 1} → statement M
 lay-givens-spec =

@@ -49,40 +49,51 @@ same-length c = search needs
 
 returns : tie.Need-returns
 unfolding encode
-returns c = (
-  c .before .before .lay-four .ensures .0 ∙ ap (λ (m : Move). c .before .before .before .before .before .before .before .before .args .at + length (encode (Played m))) (sym (c .before .before .before .before .before .m .given .1)),
-  c .before .before .lay-four .ensures .1 ∙ ap (λ (m : Move). over (c .before .before .before .before .before .before .before .before .args .output .now) (c .before .before .before .before .before .before .before .before .args .at) (encode (Played m))) (sym (c .before .before .before .before .before .m .given .1)),
-)
+returns c =
+    let a = c .before .before .before .before .before .before .before .before .args in
+    let lay-four = c .before .before .lay-four in (
+      lay-four .ensures .0 ∙ ap (λ (m : Move). a .at + length (encode (Played m))) (sym (c .before .before .before .before .before .m .given .1)),
+      lay-four .ensures .1 ∙ ap (λ (m : Move). over (a .output .now) (a .at) (encode (Played m))) (sym (c .before .before .before .before .before .m .given .1)),
+    )
 
 same-length-2 : tie.Need-same-length-2
 same-length-2 c = search needs
 
 returns-2 : tie.Need-returns-2
 unfolding encode
-returns-2 c = (
-  c .before .before .lay-three .ensures .0 ∙ ap (λ (m : Move). c .before .before .before .before .before .before .before .before .args .at + length (encode (Played m))) (sym (c .before .before .before .before .before .m2 .given .1)),
-  c .before .before .lay-three .ensures .1 ∙ ap (λ (m : Move). over (c .before .before .before .before .before .before .before .before .args .output .now) (c .before .before .before .before .before .before .before .before .args .at) (encode (Played m))) (sym (c .before .before .before .before .before .m2 .given .1)),
-)
+returns-2 c =
+    let a = c .before .before .before .before .before .before .before .before .args in
+    let m2 = c .before .before .before .before .before .m2 in
+    let lay-three = c .before .before .lay-three in (
+      lay-three .ensures .0 ∙ ap (λ (m : Move). a .at + length (encode (Played m))) (sym (m2 .given .1)),
+      lay-three .ensures .1 ∙ ap (λ (m : Move). over (a .output .now) (a .at) (encode (Played m))) (sym (m2 .given .1)),
+    )
 
 same-length-3 : tie.Need-same-length-3
 same-length-3 c = search needs
 
 returns-3 : tie.Need-returns-3
 unfolding encode
-returns-3 c = (
-  c .before .before .lay-four2 .ensures .0 ∙ ap (λ (m : Move). c .before .before .before .before .before .before .before .before .args .at + length (encode (Played m))) (sym (c .before .before .before .before .before .m3 .given .1)),
-  c .before .before .lay-four2 .ensures .1 ∙ ap (λ (m : Move). over (c .before .before .before .before .before .before .before .before .args .output .now) (c .before .before .before .before .before .before .before .before .args .at) (encode (Played m))) (sym (c .before .before .before .before .before .m3 .given .1)),
-)
+returns-3 c =
+    let a = c .before .before .before .before .before .before .before .before .args in
+    let m3 = c .before .before .before .before .before .m3 in
+    let lay-four2 = c .before .before .lay-four2 in (
+      lay-four2 .ensures .0 ∙ ap (λ (m : Move). a .at + length (encode (Played m))) (sym (m3 .given .1)),
+      lay-four2 .ensures .1 ∙ ap (λ (m : Move). over (a .output .now) (a .at) (encode (Played m))) (sym (m3 .given .1)),
+    )
 
 same-length-4 : tie.Need-same-length-4
 same-length-4 c = search needs
 
 returns-4 : tie.Need-returns-4
 unfolding encode
-returns-4 c = (
-  c .before .before .lay-four3 .ensures .0 ∙ ap (λ (m : Move). c .before .before .before .before .before .before .before .before .args .at + length (encode (Played m))) (sym (c .before .before .before .before .before .m4 .given .1)),
-  c .before .before .lay-four3 .ensures .1 ∙ ap (λ (m : Move). over (c .before .before .before .before .before .before .before .before .args .output .now) (c .before .before .before .before .before .before .before .before .args .at) (encode (Played m))) (sym (c .before .before .before .before .before .m4 .given .1)),
-)
+returns-4 c =
+    let a = c .before .before .before .before .before .before .before .before .args in
+    let m4 = c .before .before .before .before .before .m4 in
+    let lay-four3 = c .before .before .lay-four3 in (
+      lay-four3 .ensures .0 ∙ ap (λ (m : Move). a .at + length (encode (Played m))) (sym (m4 .given .1)),
+      lay-four3 .ensures .1 ∙ ap (λ (m : Move). over (a .output .now) (a .at) (encode (Played m))) (sym (m4 .given .1)),
+    )
 
 pub lay-move-spec : {M : Type 1} → statement M
 lay-move-spec =

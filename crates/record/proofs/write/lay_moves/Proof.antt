@@ -25,7 +25,8 @@ abbrev μ-loop : tie.MeasureT-loop
 
 loop-holds : tie.Need-loop-holds Inv-loop μ-loop
 loop-holds c =
-    (omega arith, omega arith, laying-start (c .before .before .args .output .now) (c .before .before .args .start) (itemsLeft Played (moveIn (c .before .before .args .journal .now)) (c .before .before .args .made + 1) 1) (omega (arith, c .before .before .pre .1, ap length (moves-left (c .before .before .args .journal .now) (c .before .before .args .made)))))
+    let a = c .before .before .args in
+    (omega arith, omega arith, laying-start (a .output .now) (a .start) (itemsLeft Played (moveIn (a .journal .now)) (a .made + 1) 1) (omega (arith, c .before .before .pre .1, ap length (moves-left (a .journal .now) (a .made)))))
 
 slot-at-requires : tie.Need-slot-at-requires Inv-loop μ-loop
 slot-at-requires c κs = search needs
@@ -35,7 +36,9 @@ move-of-requires c κs = search needs
 
 lay-move-requires : tie.Need-lay-move-requires Inv-loop μ-loop
 lay-move-requires c κs =
-    omega (arith, laying-room _ _ _ _ _ _ (c .before .before .before .before .loop .inv .2) (encode (Played (moveIn (c .before .before .before .before .before .before .before .args .journal .now) (c .before .before .before .before .loop .n)))) (itemsLeft Played (moveIn (c .before .before .before .before .before .before .before .args .journal .now)) (c .before .before .before .before .before .before .before .args .made + 1) (c .before .before .before .before .loop .n + 1)) (items-turn Played (moveIn (c .before .before .before .before .before .before .before .args .journal .now)) (c .before .before .before .before .before .before .before .args .made + 1) (c .before .before .before .before .loop .n) (omega arith)), ap (λ (m : Move). length (encode (Played m))) (c .before .move-of .ensures ∙ ap moveOf (c .before .before .slot-at .ensures)))
+    let a = c .before .before .before .before .before .before .before .args in
+    let turn = c .before .before .before .before .loop in
+    omega (arith, laying-room _ _ _ _ _ _ (turn .inv .2) (encode (Played (moveIn (a .journal .now) (turn .n)))) (itemsLeft Played (moveIn (a .journal .now)) (a .made + 1) (turn .n + 1)) (items-turn Played (moveIn (a .journal .now)) (a .made + 1) (turn .n) (omega arith)), ap (λ (m : Move). length (encode (Played m))) (c .before .move-of .ensures ∙ ap moveOf (c .before .before .slot-at .ensures)))
 
 add-n : tie.Need-add-n Inv-loop μ-loop
 add-n c = search needs
@@ -45,8 +48,11 @@ loop-less c = search needs
 
 loop-again : tie.Need-loop-again Inv-loop μ-loop
 loop-again c =
+    let a = c .before .before .before .before .before .before .before .before .before .before .args in
+    let turn = c .before .before .before .before .before .before .before .loop in
+    let lay-move = c .before .before .lay-move in
     let made = c .before .before .before .before .move-of .ensures ∙ ap moveOf (c .before .before .before .before .before .slot-at .ensures) in
-    (omega arith, omega arith, laying-more _ _ _ _ _ _ (c .before .before .before .before .before .before .before .loop .inv .2) (encode (Played (moveIn (c .before .before .before .before .before .before .before .before .before .before .args .journal .now) (c .before .before .before .before .before .before .before .loop .n)))) (itemsLeft Played (moveIn (c .before .before .before .before .before .before .before .before .before .before .args .journal .now)) (c .before .before .before .before .before .before .before .before .before .before .args .made + 1) (c .before .before .before .before .before .before .before .loop .n + 1)) _ _ (items-turn Played (moveIn (c .before .before .before .before .before .before .before .before .before .before .args .journal .now)) (c .before .before .before .before .before .before .before .before .before .before .args .made + 1) (c .before .before .before .before .before .before .before .loop .n) (omega arith)) (c .before .before .lay-move .ensures .0 ∙ ap (λ (m : Move). c .before .before .before .before .before .before .before .loop .at + length (encode (Played m))) made) (c .before .before .lay-move .ensures .1 ∙ ap (λ (m : Move). over (c .before .before .before .before .before .before .before .loop .output) (c .before .before .before .before .before .before .before .loop .at) (encode (Played m))) made))
+    (omega arith, omega arith, laying-more _ _ _ _ _ _ (turn .inv .2) (encode (Played (moveIn (a .journal .now) (turn .n)))) (itemsLeft Played (moveIn (a .journal .now)) (a .made + 1) (turn .n + 1)) _ _ (items-turn Played (moveIn (a .journal .now)) (a .made + 1) (turn .n) (omega arith)) (lay-move .ensures .0 ∙ ap (λ (m : Move). turn .at + length (encode (Played m))) made) (lay-move .ensures .1 ∙ ap (λ (m : Move). over (turn .output) (turn .at) (encode (Played m))) made))
 
 same-length : tie.Need-same-length Inv-loop μ-loop
 same-length c =
@@ -54,9 +60,11 @@ same-length c =
 
 returns : tie.Need-returns Inv-loop μ-loop
 returns c =
-    let end = laying-end _ _ _ _ _ _ (c .before .loop .inv .2) (items-none Played (moveIn (c .before .before .before .before .args .journal .now)) (c .before .before .before .before .args .made + 1) (c .before .loop .n) (omega arith)) in
-    let all = moves-left (c .before .before .before .before .args .journal .now) (c .before .before .before .before .args .made) in
-    (omega (arith, end .0, ap length all), end .1 ∙ ap (over (c .before .before .before .before .args .output .now) (c .before .before .before .before .args .start)) (sym all))
+    let a = c .before .before .before .before .args in
+    let turn = c .before .loop in
+    let end = laying-end _ _ _ _ _ _ (turn .inv .2) (items-none Played (moveIn (a .journal .now)) (a .made + 1) (turn .n) (omega arith)) in
+    let all = moves-left (a .journal .now) (a .made) in
+    (omega (arith, end .0, ap length all), end .1 ∙ ap (over (a .output .now) (a .start)) (sym all))
 
 pub lay-moves-spec : {M : Type 1} → statement M
 lay-moves-spec =

@@ -35,7 +35,8 @@ same-length c =
 
 returns : tie.Need-returns
 returns c =
-    (refl, stored (c .args .output .now) (c .args .at) (c .args .a) (c .args .b ∷ c .args .c ∷ []) (omega arith) ∙ laid-over (c .args .output .now) (c .args .at) (c .args .a ∷ c .args .b ∷ c .args .c ∷ []) (omega arith))
+    let a = c .args in
+    (refl, stored (a .output .now) (a .at) (a .a) (a .b ∷ a .c ∷ []) (omega arith) ∙ laid-over (a .output .now) (a .at) (a .a ∷ a .b ∷ a .c ∷ []) (omega arith))
 
 pub lay-three-spec : {M : Type 1} → statement M
 lay-three-spec =

@@ -1,7 +1,7 @@
 -- `record::write::moves_length` meets its contract: what was counted so far, and the bytes of what is left.
 -- Assumes nothing.
 use Prim.Native.Nat.{_≤_, _+_, _-_, _*_}
-use mathlib.Core.Path.{_≡_, sym, ap, _∙_}
+use mathlib.Core.Path.{_≡_, ap, _∙_}
 use native.Mathlib.Omega.{arith}
 use lib.ListN.{length, length-append}
 use Rattle.journal.specs.declared.Move.{Move}
@@ -25,7 +25,8 @@ abbrev μ-loop : tie.MeasureT-loop
 
 loop-holds : tie.Need-loop-holds Inv-loop μ-loop
 loop-holds c =
-    (omega arith, omega arith, omega arith, omega (arith, ap length (moves-left (c .before .args .journal .now) (c .before .args .made))))
+    let a = c .before .args in
+    (omega arith, omega arith, omega arith, omega (arith, ap length (moves-left (a .journal .now) (a .made))))
 
 slot-at-requires : tie.Need-slot-at-requires Inv-loop μ-loop
 slot-at-requires c κs = search needs
@@ -47,23 +48,27 @@ loop-less c = search needs
 
 loop-again : tie.Need-loop-again Inv-loop μ-loop
 loop-again c =
+    let a = c .before .before .before .before .before .before .args in
+    let move-length = c .move-length in
     let turn = c .before .before .before .before .loop in
-    let rest = itemsLeft Played (moveIn (c .before .before .before .before .before .before .args .journal .now)) (c .before .before .before .before .before .before .args .made + 1) (turn .n + 1) in (
+    let rest = itemsLeft Played (moveIn (a .journal .now)) (a .made + 1) (turn .n + 1) in (
       omega arith,
       omega arith,
-      omega (arith, c .move-length .ensures .1, turn .inv .2),
+      omega (arith, move-length .ensures .1, turn .inv .2),
       omega (
         arith,
         turn .inv .3,
-        c .move-length .ensures .0 ∙ ap (λ (m : Move). length (encode (Played m))) (c .before .move-of .ensures ∙ ap moveOf (c .before .before .slot-at .ensures)),
-        ap length (items-turn Played (moveIn (c .before .before .before .before .before .before .args .journal .now)) (c .before .before .before .before .before .before .args .made + 1) (c .before .before .before .before .loop .n) (omega arith)),
-        length-append (encode (Played (moveIn (c .before .before .before .before .before .before .args .journal .now) (turn .n)))) rest,
+        move-length .ensures .0 ∙ ap (λ (m : Move). length (encode (Played m))) (c .before .move-of .ensures ∙ ap moveOf (c .before .before .slot-at .ensures)),
+        ap length (items-turn Played (moveIn (a .journal .now)) (a .made + 1) (c .before .before .before .before .loop .n) (omega arith)),
+        length-append (encode (Played (moveIn (a .journal .now) (turn .n)))) rest,
       ),
     )
 
 returns : tie.Need-returns Inv-loop μ-loop
 returns c =
-    (omega (arith, c .before .loop .inv .3, ap length (items-none Played (moveIn (c .before .before .before .args .journal .now)) (c .before .before .before .args .made + 1) (c .before .loop .n) (omega arith))), omega arith)
+    let a = c .before .before .before .args in
+    let turn = c .before .loop in
+    (omega (arith, turn .inv .3, ap length (items-none Played (moveIn (a .journal .now)) (a .made + 1) (turn .n) (omega arith))), omega arith)
 
 pub moves-length-spec : {M : Type 1} → statement M
 moves-length-spec =

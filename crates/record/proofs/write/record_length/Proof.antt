@@ -29,7 +29,8 @@ add-result-3 c = search needs
 
 returns : tie.Need-returns
 returns c =
-    omega (arith, length-record (c .before .before .before .before .before .before .args .t1) (c .before .before .before .before .before .before .args .journal .now) (c .before .before .before .before .before .before .args .checks .now), c .before .count-givens .ensures .0, c .moves-length .ensures .0)
+    let a = c .before .before .before .before .before .before .args in
+    omega (arith, length-record (a .t1) (a .journal .now) (a .checks .now), c .before .count-givens .ensures .0, c .moves-length .ensures .0)
 
 pub record-length-spec : {M : Type 1} → statement M
 record-length-spec =

@@ -22,14 +22,18 @@ abbrev μ-loop : tie.MeasureT-loop
 
 loop-holds : tie.Need-loop-holds Inv-loop μ-loop
 loop-holds c =
-    (omega arith, omega arith, ap (λ (k : ℕ). firstRefused (unsoundCheck (givensOnly (c .before .args .given .now)) (c .before .args .checks .now)) k 1) {x = c .before .args .count} {y = c .before .args .count + 1 - 1} (omega arith))
+    let a = c .before .args in
+    (omega arith, omega arith, ap (λ (k : ℕ). firstRefused (unsoundCheck (givensOnly (a .given .now)) (a .checks .now)) k 1) {x = a .count} {y = a .count + 1 - 1} (omega arith))
 
 unsound-check-requires : tie.Need-unsound-check-requires Inv-loop μ-loop
 unsound-check-requires c κs = search needs
 
 returns : tie.Need-returns Inv-loop μ-loop
 returns c =
-    sym (c .before .before .before .before .loop .inv .2 ∙ walk-refused (unsoundCheck (givensOnly (c .before .before .before .before .before .before .args .given .now)) (c .before .before .before .before .before .before .args .checks .now)) (c .before .before .before .before .before .before .args .count + 1) (c .before .before .before .before .loop .n) (c .before .before .unsound-check .result) (omega arith) (c .before .before .unsound-check .ensures) (c .if1 .taken))
+    let a = c .before .before .before .before .before .before .args in
+    let turn = c .before .before .before .before .loop in
+    let unsound-check = c .before .before .unsound-check in
+    sym (turn .inv .2 ∙ walk-refused (unsoundCheck (givensOnly (a .given .now)) (a .checks .now)) (a .count + 1) (turn .n) (unsound-check .result) (omega arith) (unsound-check .ensures) (c .if1 .taken))
 
 add-n : tie.Need-add-n Inv-loop μ-loop
 add-n c = search needs
@@ -39,14 +43,19 @@ loop-less c = search needs
 
 loop-again : tie.Need-loop-again Inv-loop μ-loop
 loop-again c =
-    (omega arith, omega arith, c .before .before .before .before .loop .inv .2 ∙ walk-more (unsoundCheck (givensOnly (c .before .before .before .before .before .before .args .given .now)) (c .before .before .before .before .before .before .args .checks .now)) (c .before .before .before .before .before .before .args .count + 1) (c .before .before .before .before .loop .n) (c .before .before .unsound-check .result) (omega arith) (c .before .before .unsound-check .ensures) (c .if1 .left))
+    let a = c .before .before .before .before .before .before .args in
+    let turn = c .before .before .before .before .loop in
+    let unsound-check = c .before .before .unsound-check in
+    (omega arith, omega arith, turn .inv .2 ∙ walk-more (unsoundCheck (givensOnly (a .given .now)) (a .checks .now)) (a .count + 1) (turn .n) (unsound-check .result) (omega arith) (unsound-check .ensures) (c .if1 .left))
 
 accepted-requires : tie.Need-accepted-requires Inv-loop μ-loop
 accepted-requires c κs = search needs
 
 returns-2 : tie.Need-returns-2 Inv-loop μ-loop
 returns-2 c =
-    c .accepted .ensures ∙ sym (c .before .before .loop .inv .2 ∙ walk-all (unsoundCheck (givensOnly (c .before .before .before .before .args .given .now)) (c .before .before .before .before .args .checks .now)) (c .before .before .before .before .args .count + 1) (c .before .before .loop .n) (omega arith))
+    let a = c .before .before .before .before .args in
+    let turn = c .before .before .loop in
+    c .accepted .ensures ∙ sym (turn .inv .2 ∙ walk-all (unsoundCheck (givensOnly (a .given .now)) (a .checks .now)) (a .count + 1) (turn .n) (omega arith))
 
 pub unsound-checks-spec : {M : Type 1} → statement M
 unsound-checks-spec =

@@ -23,8 +23,9 @@ accepted-requires c κs = search needs
 returns : tie.Need-returns
 unfolding unsoundSlot soundFor
 returns c =
-    let sound = c .before .before .is-sound .ensures ∙ ap (soundFor (c .before .before .before .before .before .args .given .now)) (c .before .before .before .slot-at .ensures) in
-    c .accepted .ensures ∙ sym (if-not _ (refusal 14 (c .before .before .before .before .before .args .n) 0) (not-is-false _ (sym sound ∙ c .before .if1 .taken)))
+    let a = c .before .before .before .before .before .args in
+    let sound = c .before .before .is-sound .ensures ∙ ap (soundFor (a .given .now)) (c .before .before .before .slot-at .ensures) in
+    c .accepted .ensures ∙ sym (if-not _ (refusal 14 (a .n) 0) (not-is-false _ (sym sound ∙ c .before .if1 .taken)))
 
 refusal-requires : tie.Need-refusal-requires
 refusal-requires c κs = search needs
@@ -32,8 +33,9 @@ refusal-requires c κs = search needs
 returns-2 : tie.Need-returns-2
 unfolding unsoundSlot soundFor
 returns-2 c =
-    let sound = c .before .before .is-sound .ensures ∙ ap (soundFor (c .before .before .before .before .before .args .given .now)) (c .before .before .before .slot-at .ensures) in
-    c .refusal .ensures ∙ sym (refused-if _ (refusal 14 (c .before .before .before .before .before .args .n) 0) (not-is-true _ (sym sound ∙ c .before .if1 .left)))
+    let a = c .before .before .before .before .before .args in
+    let sound = c .before .before .is-sound .ensures ∙ ap (soundFor (a .given .now)) (c .before .before .before .slot-at .ensures) in
+    c .refusal .ensures ∙ sym (refused-if _ (refusal 14 (a .n) 0) (not-is-true _ (sym sound ∙ c .before .if1 .left)))
 
 pub unsound-slot-spec : {M : Type 1} → statement M
 unsound-slot-spec =

@@ -22,14 +22,18 @@ abbrev μ-loop : tie.MeasureT-loop
 
 loop-holds : tie.Need-loop-holds Inv-loop μ-loop
 loop-holds c =
-    (omega arith, omega arith, ap (λ (k : ℕ). firstRefused (unsoundSlot (givensOnly (c .before .args .given .now)) (c .before .args .journal .now)) k 1) {x = c .before .args .made} {y = c .before .args .made + 1 - 1} (omega arith))
+    let a = c .before .args in
+    (omega arith, omega arith, ap (λ (k : ℕ). firstRefused (unsoundSlot (givensOnly (a .given .now)) (a .journal .now)) k 1) {x = a .made} {y = a .made + 1 - 1} (omega arith))
 
 unsound-slot-requires : tie.Need-unsound-slot-requires Inv-loop μ-loop
 unsound-slot-requires c κs = search needs
 
 returns : tie.Need-returns Inv-loop μ-loop
 returns c =
-    sym (c .before .before .before .before .loop .inv .2 ∙ walk-refused (unsoundSlot (givensOnly (c .before .before .before .before .before .before .args .given .now)) (c .before .before .before .before .before .before .args .journal .now)) (c .before .before .before .before .before .before .args .made + 1) (c .before .before .before .before .loop .n) (c .before .before .unsound-slot .result) (omega arith) (c .before .before .unsound-slot .ensures) (c .if1 .taken))
+    let a = c .before .before .before .before .before .before .args in
+    let turn = c .before .before .before .before .loop in
+    let unsound-slot = c .before .before .unsound-slot in
+    sym (turn .inv .2 ∙ walk-refused (unsoundSlot (givensOnly (a .given .now)) (a .journal .now)) (a .made + 1) (turn .n) (unsound-slot .result) (omega arith) (unsound-slot .ensures) (c .if1 .taken))
 
 add-n : tie.Need-add-n Inv-loop μ-loop
 add-n c = search needs
@@ -39,14 +43,19 @@ loop-less c = search needs
 
 loop-again : tie.Need-loop-again Inv-loop μ-loop
 loop-again c =
-    (omega arith, omega arith, c .before .before .before .before .loop .inv .2 ∙ walk-more (unsoundSlot (givensOnly (c .before .before .before .before .before .before .args .given .now)) (c .before .before .before .before .before .before .args .journal .now)) (c .before .before .before .before .before .before .args .made + 1) (c .before .before .before .before .loop .n) (c .before .before .unsound-slot .result) (omega arith) (c .before .before .unsound-slot .ensures) (c .if1 .left))
+    let a = c .before .before .before .before .before .before .args in
+    let turn = c .before .before .before .before .loop in
+    let unsound-slot = c .before .before .unsound-slot in
+    (omega arith, omega arith, turn .inv .2 ∙ walk-more (unsoundSlot (givensOnly (a .given .now)) (a .journal .now)) (a .made + 1) (turn .n) (unsound-slot .result) (omega arith) (unsound-slot .ensures) (c .if1 .left))
 
 accepted-requires : tie.Need-accepted-requires Inv-loop μ-loop
 accepted-requires c κs = search needs
 
 returns-2 : tie.Need-returns-2 Inv-loop μ-loop
 returns-2 c =
-    c .accepted .ensures ∙ sym (c .before .before .loop .inv .2 ∙ walk-all (unsoundSlot (givensOnly (c .before .before .before .before .args .given .now)) (c .before .before .before .before .args .journal .now)) (c .before .before .before .before .args .made + 1) (c .before .before .loop .n) (omega arith))
+    let a = c .before .before .before .before .args in
+    let turn = c .before .before .loop in
+    c .accepted .ensures ∙ sym (turn .inv .2 ∙ walk-all (unsoundSlot (givensOnly (a .given .now)) (a .journal .now)) (a .made + 1) (turn .n) (omega arith))
 
 pub unsound-slots-spec : {M : Type 1} → statement M
 unsound-slots-spec =

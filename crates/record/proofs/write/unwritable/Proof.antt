@@ -15,14 +15,18 @@ refusal-requires c κs = search needs
 
 returns : tie.Need-returns
 returns c =
-    (c .refusal .ensures ∙ refused-1 (c .before .before .before .before .args .t1) (c .before .before .before .before .args .journal .now) (c .before .before .before .before .args .checks .now) (both-false-left _ _ (ne-eqb _ 8192 (c .before .if1 .taken))), λ z. absurd (omega (arith, ap (λ (x : Refusal). x .number) (c .refusal .ensures), z)))
+    let a = c .before .before .before .before .args in
+    let refusal = c .refusal in
+    (refusal .ensures ∙ refused-1 (a .t1) (a .journal .now) (a .checks .now) (both-false-left _ _ (ne-eqb _ 8192 (c .before .if1 .taken))), λ z. absurd (omega (arith, ap (λ (x : Refusal). x .number) (refusal .ensures), z)))
 
 refusal-requires-2 : tie.Need-refusal-requires-2
 refusal-requires-2 c κs = search needs
 
 returns-2 : tie.Need-returns-2
 returns-2 c =
-    (c .refusal2 .ensures ∙ refused-1 (c .before .before .before .before .before .args .t1) (c .before .before .before .before .before .args .journal .now) (c .before .before .before .before .before .args .checks .now) (both-false-right _ _ (ne-eqb _ 1536 (c .before .if2 .taken))), λ z. absurd (omega (arith, ap (λ (x : Refusal). x .number) (c .refusal2 .ensures), z)))
+    let a = c .before .before .before .before .before .args in
+    let refusal2 = c .refusal2 in
+    (refusal2 .ensures ∙ refused-1 (a .t1) (a .journal .now) (a .checks .now) (both-false-right _ _ (ne-eqb _ 1536 (c .before .if2 .taken))), λ z. absurd (omega (arith, ap (λ (x : Refusal). x .number) (refusal2 .ensures), z)))
 
 is-board-requires : tie.Need-is-board-requires
 is-board-requires c κs = search needs
@@ -32,7 +36,9 @@ refusal-requires-3 c κs = search needs
 
 returns-3 : tie.Need-returns-3
 returns-3 c =
-    (c .refusal3 .ensures ∙ refused-2 (c .before .before .before .before .before .before .before .args .t1) (c .before .before .before .before .before .before .before .args .journal .now) (c .before .before .before .before .before .before .before .args .checks .now) (both-true _ _ (eq-eqb _ 8192 (c .before .before .before .before .if1 .left)) (eq-eqb _ 1536 (c .before .before .before .if2 .left))) (sym (c .before .before .is-board .ensures) ∙ not-true _ (c .before .if3 .taken)), λ z. absurd (omega (arith, ap (λ (x : Refusal). x .number) (c .refusal3 .ensures), z)))
+    let a = c .before .before .before .before .before .before .before .args in
+    let refusal3 = c .refusal3 in
+    (refusal3 .ensures ∙ refused-2 (a .t1) (a .journal .now) (a .checks .now) (both-true _ _ (eq-eqb _ 8192 (c .before .before .before .before .if1 .left)) (eq-eqb _ 1536 (c .before .before .before .if2 .left))) (sym (c .before .before .is-board .ensures) ∙ not-true _ (c .before .if3 .taken)), λ z. absurd (omega (arith, ap (λ (x : Refusal). x .number) (refusal3 .ensures), z)))
 
 unsound-slots-requires : tie.Need-unsound-slots-requires
 unsound-slots-requires c κs =
@@ -40,7 +46,9 @@ unsound-slots-requires c κs =
 
 returns-4 : tie.Need-returns-4
 returns-4 c =
-    (refused-14 (c .before .before .before .before .before .before .before .before .before .before .before .args .t1) (c .before .before .before .before .before .before .before .before .before .before .before .args .journal .now) (c .before .before .before .before .before .before .before .before .before .before .before .args .checks .now) (both-true _ _ (eq-eqb _ 8192 (c .before .before .before .before .before .before .before .before .if1 .left)) (eq-eqb _ 1536 (c .before .before .before .before .before .before .before .if2 .left))) (sym (c .before .before .before .before .before .before .is-board .ensures) ∙ not-false _ (c .before .before .before .before .before .if3 .left)) (c .before .before .unsound-slots .result) (c .before .before .unsound-slots .ensures) (c .if4 .taken), λ z. absurd (c .if4 .taken z))
+    let a = c .before .before .before .before .before .before .before .before .before .before .before .args in
+    let unsound-slots = c .before .before .unsound-slots in
+    (refused-14 (a .t1) (a .journal .now) (a .checks .now) (both-true _ _ (eq-eqb _ 8192 (c .before .before .before .before .before .before .before .before .if1 .left)) (eq-eqb _ 1536 (c .before .before .before .before .before .before .before .if2 .left))) (sym (c .before .before .before .before .before .before .is-board .ensures) ∙ not-false _ (c .before .before .before .before .before .if3 .left)) (unsound-slots .result) (unsound-slots .ensures) (c .if4 .taken), λ z. absurd (c .if4 .taken z))
 
 unsound-checks-requires : tie.Need-unsound-checks-requires
 unsound-checks-requires c κs =
@@ -48,7 +56,10 @@ unsound-checks-requires c κs =
 
 returns-5 : tie.Need-returns-5
 returns-5 c =
-    (c .unsound-checks .ensures ∙ past-14 (c .before .before .before .before .before .before .before .before .before .before .before .before .before .before .args .t1) (c .before .before .before .before .before .before .before .before .before .before .before .before .before .before .args .journal .now) (c .before .before .before .before .before .before .before .before .before .before .before .before .before .before .args .checks .now) (both-true _ _ (eq-eqb _ 8192 (c .before .before .before .before .before .before .before .before .before .before .before .if1 .left)) (eq-eqb _ 1536 (c .before .before .before .before .before .before .before .before .before .before .if2 .left))) (sym (c .before .before .before .before .before .before .before .before .before .is-board .ensures) ∙ not-false _ (c .before .before .before .before .before .before .before .before .if3 .left)) (c .before .before .before .before .before .unsound-slots .result) (c .before .before .before .before .before .unsound-slots .ensures) (c .before .before .before .if4 .left), λ z. board-counts (c .before .before .before .before .before .before .before .before .before .before .before .before .before .before .args .t1) (sym (c .before .before .before .before .before .before .before .before .before .is-board .ensures) ∙ not-false _ (c .before .before .before .before .before .before .before .before .if3 .left)))
+    let a = c .before .before .before .before .before .before .before .before .before .before .before .before .before .before .args in
+    let is-board = c .before .before .before .before .before .before .before .before .before .is-board in
+    let unsound-slots = c .before .before .before .before .before .unsound-slots in
+    (c .unsound-checks .ensures ∙ past-14 (a .t1) (a .journal .now) (a .checks .now) (both-true _ _ (eq-eqb _ 8192 (c .before .before .before .before .before .before .before .before .before .before .before .if1 .left)) (eq-eqb _ 1536 (c .before .before .before .before .before .before .before .before .before .before .if2 .left))) (sym (is-board .ensures) ∙ not-false _ (c .before .before .before .before .before .before .before .before .if3 .left)) (unsound-slots .result) (unsound-slots .ensures) (c .before .before .before .if4 .left), λ z. board-counts (a .t1) (sym (is-board .ensures) ∙ not-false _ (c .before .before .before .before .before .before .before .before .if3 .left)))
 
 pub unwritable-spec : {M : Type 1} → statement M
 unwritable-spec =

@@ -14,7 +14,9 @@ unwritable-requires c κs = search needs
 
 returns : tie.Need-returns
 returns c =
-    let w = not-written (c .before .before .before .before .before .before .args .board) (c .before .before .before .before .before .before .args .journal .now) (c .before .before .before .before .before .before .args .checks .now) (c .before .before .before .before .before .before .args .output .now) (c .before .before .unwritable .result) (c .before .before .unwritable .ensures .0) (c .if1 .taken) in
+    let a = c .before .before .before .before .before .before .args in
+    let unwritable = c .before .before .unwritable in
+    let w = not-written (a .board) (a .journal .now) (a .checks .now) (a .output .now) (unwritable .result) (unwritable .ensures .0) (c .if1 .taken) in
     (ap (λ (x : Wrote). x .answer) w, ap (λ (x : Wrote). x .output) w)
 
 record-length-requires : tie.Need-record-length-requires
@@ -27,8 +29,11 @@ refusal-requires c κs = search needs
 
 returns-2 : tie.Need-returns-2
 returns-2 c =
-    let w = too-short (c .before .before .before .before .before .before .before .before .before .args .board) (c .before .before .before .before .before .before .before .before .before .args .journal .now) (c .before .before .before .before .before .before .before .before .before .args .checks .now) (c .before .before .before .before .before .before .before .before .before .args .output .now) (c .before .before .before .before .before .unwritable .result) (c .before .before .before .before .before .unwritable .ensures .0) (c .before .before .before .if1 .left) (c .before .before .record-length .result) (c .before .before .record-length .ensures) (c .before .if2 .taken) in
-    (ap (λ (x : Refusal). wrote x 0 (c .before .before .before .before .before .before .before .before .before .args .output .now) .answer) (c .refusal .ensures) ∙ ap (λ (x : Wrote). x .answer) w, ap (λ (x : Wrote). x .output) w)
+    let a = c .before .before .before .before .before .before .before .before .before .args in
+    let unwritable = c .before .before .before .before .before .unwritable in
+    let record-length = c .before .before .record-length in
+    let w = too-short (a .board) (a .journal .now) (a .checks .now) (a .output .now) (unwritable .result) (unwritable .ensures .0) (c .before .before .before .if1 .left) (record-length .result) (record-length .ensures) (c .before .if2 .taken) in
+    (ap (λ (x : Refusal). wrote x 0 (a .output .now) .answer) (c .refusal .ensures) ∙ ap (λ (x : Wrote). x .answer) w, ap (λ (x : Wrote). x .output) w)
 
 lay-record-requires : tie.Need-lay-record-requires
 lay-record-requires c κs =
@@ -43,8 +48,11 @@ same-length c = search needs
 
 returns-3 : tie.Need-returns-3
 returns-3 c =
-    let w = written (c .before .before .before .before .before .before .before .before .before .before .before .before .before .args .board) (c .before .before .before .before .before .before .before .before .before .before .before .before .before .args .journal .now) (c .before .before .before .before .before .before .before .before .before .before .before .before .before .args .checks .now) (c .before .before .before .before .before .before .before .before .before .before .before .before .before .args .output .now) (c .before .before .before .before .before .before .before .before .before .unwritable .result) (c .before .before .before .before .before .before .before .before .before .unwritable .ensures .0) (c .before .before .before .before .before .before .before .if1 .left) (c .before .before .before .before .before .before .record-length .result) (c .before .before .before .before .before .before .record-length .ensures) (c .before .before .before .before .before .if2 .left) in
-    (ap (λ (x : Refusal). wrote x (c .before .before .before .before .before .before .record-length .result) (c .before .before .before .before .before .before .before .before .before .before .before .before .before .args .output .now) .answer) (c .accepted .ensures) ∙ ap (λ (x : Wrote). x .answer) w, c .before .before .before .lay-record .ensures ∙ ap (λ (x : Wrote). x .output) w)
+    let a = c .before .before .before .before .before .before .before .before .before .before .before .before .before .args in
+    let unwritable = c .before .before .before .before .before .before .before .before .before .unwritable in
+    let record-length = c .before .before .before .before .before .before .record-length in
+    let w = written (a .board) (a .journal .now) (a .checks .now) (a .output .now) (unwritable .result) (unwritable .ensures .0) (c .before .before .before .before .before .before .before .if1 .left) (record-length .result) (record-length .ensures) (c .before .before .before .before .before .if2 .left) in
+    (ap (λ (x : Refusal). wrote x (record-length .result) (a .output .now) .answer) (c .accepted .ensures) ∙ ap (λ (x : Wrote). x .answer) w, c .before .before .before .lay-record .ensures ∙ ap (λ (x : Wrote). x .output) w)
 
 pub write-spec : {M : Type 1} → statement M
 write-spec =
