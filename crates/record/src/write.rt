@@ -8,9 +8,9 @@ use journal::JOURNAL_BYTES;
 use journal::Move;
 use journal::checks::is_sound_check;
 use journal::slots::is_given;
-use journal::slots::is_sound;
 use journal::slots::move_of;
 use journal::slots::slot_at;
+use play::sound::first_unsound;
 use puzzle::Refusal;
 use puzzle::answer::accepted;
 use puzzle::answer::refusal;
@@ -29,37 +29,10 @@ ghost use Rattle.puzzle.specs.Refusals.{firstRefused};
 ghost use Rattle.journal.specs.Limits.{maxMoves, maxChecks};
 ghost use Rattle.journal.specs.Bytes.{over};
 ghost use Rattle.journal.specs.State.{givensOnly, isGiven};
-ghost use Rattle.play.specs.Play.{unsoundSlot as unsoundSlotOf};
 ghost use Rattle.record.specs.declared.Item.the-variants.{Played};
 ghost use Rattle.record.specs.Items.{encode, checkItem, recordOf};
 ghost use Rattle.record.specs.Write.{partsOf, askedAt, unsoundCheck as unsoundCheckOf, unwritable as unwritableOf, writeOf};
 ghost use Rattle.record.specs.Laying.{givenBytes, givensBytes, movesBytes, checksBytes};
-
-// 14 of slot n.
-fn unsound_slot(given: &[bool; 81], journal: &[u8], n: usize) -> Refusal
-    ensures { λ r. ⌜ r ≡ unsoundSlotOf (givensOnly (now (given .entry))) (now (journal .entry)) n ⌝ }
-{
-    if is_sound(given, slot_at(journal, n)) {
-        return accepted();
-    }
-    refusal(14, n, 0)
-}
-
-// 14 of slots 1 to made.
-fn unsound_slots(given: &[bool; 81], journal: &[u8], made: usize) -> Refusal
-    requires { ⌜ made ≤ maxMoves ⌝ }
-    ensures { λ r. ⌜ r ≡ firstRefused (unsoundSlotOf (givensOnly (now (given .entry))) (now (journal .entry))) made 1 ⌝ }
-{
-    let mut n: usize = 1;
-    while n <= made {
-        let r = unsound_slot(given, journal, n);
-        if r.number != 0 {
-            return r;
-        }
-        n += 1;
-    }
-    accepted()
-}
 
 // 14 of stored check n, with inner 1.
 fn unsound_check(given: &[bool; 81], checks: &[u8], n: usize) -> Refusal
@@ -100,7 +73,7 @@ fn unwritable(board: Board, journal: &[u8], checks: &[u8]) -> Refusal
     if !is_board(board) {
         return refusal(2, 0, 0);
     }
-    let r = unsound_slots(&board.given, journal, board.made);
+    let r = first_unsound(&board.given, journal, board.made);
     if r.number != 0 {
         return r;
     }

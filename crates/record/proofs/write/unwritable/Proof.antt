@@ -40,15 +40,14 @@ returns-3 c =
     let refusal3 = c .refusal3 in
     (refusal3 .ensures ∙ refused-2 (a .t1) (a .journal .now) (a .checks .now) (both-true _ _ (eq-eqb _ 8192 (c .before .before .before .before .if1 .left)) (eq-eqb _ 1536 (c .before .before .before .if2 .left))) (sym (c .before .before .is-board .ensures) ∙ not-true _ (c .before .if3 .taken)), λ z. absurd (omega (arith, ap (λ (x : Refusal). x .number) (refusal3 .ensures), z)))
 
-unsound-slots-requires : tie.Need-unsound-slots-requires
-unsound-slots-requires c κs =
-    board-counts (c .before .before .before .before .before .before .before .before .args .t1) (sym (c .before .before .before .is-board .ensures) ∙ not-false _ (c .before .before .if3 .left)) .0
+first-unsound-requires : tie.Need-first-unsound-requires
+first-unsound-requires c κs = search needs
 
 returns-4 : tie.Need-returns-4
 returns-4 c =
     let a = c .before .before .before .before .before .before .before .before .before .before .before .args in
-    let unsound-slots = c .before .before .unsound-slots in
-    (refused-14 (a .t1) (a .journal .now) (a .checks .now) (both-true _ _ (eq-eqb _ 8192 (c .before .before .before .before .before .before .before .before .if1 .left)) (eq-eqb _ 1536 (c .before .before .before .before .before .before .before .if2 .left))) (sym (c .before .before .before .before .before .before .is-board .ensures) ∙ not-false _ (c .before .before .before .before .before .if3 .left)) (unsound-slots .result) (unsound-slots .ensures) (c .if4 .taken), λ z. absurd (c .if4 .taken z))
+    let first-unsound = c .before .before .first-unsound in
+    (refused-14 (a .t1) (a .journal .now) (a .checks .now) (both-true _ _ (eq-eqb _ 8192 (c .before .before .before .before .before .before .before .before .if1 .left)) (eq-eqb _ 1536 (c .before .before .before .before .before .before .before .if2 .left))) (sym (c .before .before .before .before .before .before .is-board .ensures) ∙ not-false _ (c .before .before .before .before .before .if3 .left)) (first-unsound .result) (first-unsound .ensures) (c .if4 .taken), λ z. absurd (c .if4 .taken z))
 
 unsound-checks-requires : tie.Need-unsound-checks-requires
 unsound-checks-requires c κs =
@@ -58,8 +57,8 @@ returns-5 : tie.Need-returns-5
 returns-5 c =
     let a = c .before .before .before .before .before .before .before .before .before .before .before .before .before .before .args in
     let is-board = c .before .before .before .before .before .before .before .before .before .is-board in
-    let unsound-slots = c .before .before .before .before .before .unsound-slots in
-    (c .unsound-checks .ensures ∙ past-14 (a .t1) (a .journal .now) (a .checks .now) (both-true _ _ (eq-eqb _ 8192 (c .before .before .before .before .before .before .before .before .before .before .before .if1 .left)) (eq-eqb _ 1536 (c .before .before .before .before .before .before .before .before .before .before .if2 .left))) (sym (is-board .ensures) ∙ not-false _ (c .before .before .before .before .before .before .before .before .if3 .left)) (unsound-slots .result) (unsound-slots .ensures) (c .before .before .before .if4 .left), λ z. board-counts (a .t1) (sym (is-board .ensures) ∙ not-false _ (c .before .before .before .before .before .before .before .before .if3 .left)))
+    let first-unsound = c .before .before .before .before .before .first-unsound in
+    (c .unsound-checks .ensures ∙ past-14 (a .t1) (a .journal .now) (a .checks .now) (both-true _ _ (eq-eqb _ 8192 (c .before .before .before .before .before .before .before .before .before .before .before .if1 .left)) (eq-eqb _ 1536 (c .before .before .before .before .before .before .before .before .before .before .if2 .left))) (sym (is-board .ensures) ∙ not-false _ (c .before .before .before .before .before .before .before .before .if3 .left)) (first-unsound .result) (first-unsound .ensures) (c .before .before .before .if4 .left), λ z. board-counts (a .t1) (sym (is-board .ensures) ∙ not-false _ (c .before .before .before .before .before .before .before .before .if3 .left)))
 
 pub unwritable-spec : {M : Type 1} → statement M
 unwritable-spec =
@@ -72,7 +71,7 @@ unwritable-spec =
     is-board-requires
     refusal-requires-3
     returns-3
-    unsound-slots-requires
+    first-unsound-requires
     returns-4
     unsound-checks-requires
     returns-5)
