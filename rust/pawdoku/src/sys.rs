@@ -1,0 +1,568 @@
+//! Every function of include/pawdoku.h, with nothing added: any board, any slices, any bytes.
+//!
+//! The library refuses what it cannot use by a number, whatever it is handed, so all of these are safe: what it
+//! asks of a caller beyond that (pointers that can be used, no overlap with memory that is written) is what a Rust
+//! slice is. This is the only module with `unsafe` in it.
+//!
+//! The structs have the layout of the header's, which is asserted below. Flags are bytes, 0 or 1.
+
+use core::mem::{offset_of, size_of};
+
+/// Why a call is refused; number 0 where it is not. Place and inner are 0 where nothing is said of them.
+#[repr(C)]
+#[derive(Debug, Clone, Copy, PartialEq, Eq, Default)]
+pub struct Refusal {
+    /// 0, or why not.
+    pub number: u8,
+    /// The cell, given, item, move, slot or check that is meant.
+    pub place: usize,
+    /// The number inside: why a move or a check of a record is refused, or the second cell of a conflict.
+    pub inner: u8,
+}
+
+/// A board, as the library takes and returns it by value. All fields are open: any bytes may stand in them.
+#[repr(C)]
+#[derive(Debug, Clone, Copy, PartialEq, Eq)]
+pub struct Board {
+    /// Cell n stands at n - 1; 0 for none.
+    pub digits: [u8; 81],
+    /// 1 where the cell is a given.
+    pub given: [u8; 81],
+    /// Mark d is the bit of value `1 << d`; a note under a digit is kept and not shown.
+    pub notes: [u16; 81],
+    /// The solution, row by row.
+    pub solution: [u8; 81],
+    /// 1 when the board is solved.
+    pub solved: u8,
+    /// Moves in the journal.
+    pub made: usize,
+    /// Of these, not undone.
+    pub standing: usize,
+    /// Checks stored.
+    pub checks: usize,
+}
+
+impl Board {
+    /// The board with every field 0, which a refused opening hands back.
+    pub const ZERO: Self = Self {
+        digits: [0; 81],
+        given: [0; 81],
+        notes: [0; 81],
+        solution: [0; 81],
+        solved: 0,
+        made: 0,
+        standing: 0,
+        checks: 0,
+    };
+}
+
+impl Default for Board {
+    fn default() -> Self {
+        Self::ZERO
+    }
+}
+
+/// The answer of a call that changes the board.
+#[repr(C)]
+#[derive(Debug, Clone, Copy, PartialEq, Eq)]
+pub struct Answer {
+    /// Why the call was refused, if it was.
+    pub refusal: Refusal,
+    /// The board afterwards.
+    pub board: Board,
+}
+
+/// The answer of a check.
+#[repr(C)]
+#[derive(Debug, Clone, Copy, PartialEq, Eq)]
+pub struct Checked {
+    /// Why the call was refused, if it was.
+    pub refusal: Refusal,
+    /// 1 when the digit is the solution's.
+    pub right: u8,
+    /// The board afterwards.
+    pub board: Board,
+}
+
+/// The answer of writing.
+#[repr(C)]
+#[derive(Debug, Clone, Copy, PartialEq, Eq)]
+pub struct Written {
+    /// Why the call was refused, if it was.
+    pub refusal: Refusal,
+    /// How long the record is.
+    pub length: usize,
+}
+
+/// A move that is shown: its slot stands in the journal at `offset`.
+#[repr(C)]
+#[derive(Debug, Clone, Copy, PartialEq, Eq)]
+pub struct Shown {
+    /// Why the call was refused, if it was.
+    pub refusal: Refusal,
+    /// Where in the journal the slot stands.
+    pub offset: usize,
+    /// Eight, or 0 beside a refusal.
+    pub length: usize,
+}
+
+/// What the board shows of one cell.
+#[repr(C)]
+#[derive(Debug, Clone, Copy, PartialEq, Eq)]
+pub struct CellAnswer {
+    /// Why the call was refused, if it was.
+    pub refusal: Refusal,
+    /// The digit, 0 for none.
+    pub digit: u8,
+    /// 1 where the cell is a given.
+    pub given: u8,
+    /// 1 where a peer holds the same digit.
+    pub conflicting: u8,
+    /// The kept note.
+    pub note: u16,
+    /// 1 where the note is shown.
+    pub shown: u8,
+}
+
+/// The answer of a question for yes or no.
+#[repr(C)]
+#[derive(Debug, Clone, Copy, PartialEq, Eq)]
+pub struct YesNo {
+    /// Why the call was refused, if it was.
+    pub refusal: Refusal,
+    /// 1 for yes.
+    pub holds: u8,
+}
+
+/// The answer of the keypad question.
+#[repr(C)]
+#[derive(Debug, Clone, Copy, PartialEq, Eq)]
+pub struct Left {
+    /// Why the call was refused, if it was.
+    pub refusal: Refusal,
+    /// How many of the digit are left to place.
+    pub left: u8,
+}
+
+/// Move k, and the digits and notes as they stood once it and no later one had been made.
+#[repr(C)]
+#[derive(Debug, Clone, Copy, PartialEq, Eq)]
+pub struct ReadingAnswer {
+    /// Why the call was refused, if it was.
+    pub refusal: Refusal,
+    /// 2 place, 3 erase, 4 write mark, 5 strike mark.
+    pub kind: u8,
+    /// The target's row.
+    pub row: u8,
+    /// The target's column.
+    pub column: u8,
+    /// The digit, 0 for erase.
+    pub digit: u8,
+    /// 1 where the move is undone.
+    pub undone: u8,
+    /// k.
+    pub index: usize,
+    /// The digits after move k.
+    pub digits: [u8; 81],
+    /// The kept notes after move k.
+    pub notes: [u16; 81],
+}
+
+/// The marks of a note, ascending, zeros behind them.
+#[repr(C)]
+#[derive(Debug, Clone, Copy, PartialEq, Eq)]
+pub struct Digits {
+    /// The digits.
+    pub digits: [u8; 9],
+}
+
+/// The peers of a cell, ascending; zeros where there is no such cell.
+#[repr(C)]
+#[derive(Debug, Clone, Copy, PartialEq, Eq)]
+pub struct PeerCells {
+    /// The peers' cell numbers.
+    pub cells: [u8; 20],
+}
+
+const _: () = {
+    assert!(size_of::<usize>() == 8, "pawdoku is built for 64 bits");
+    assert!(size_of::<Refusal>() == 24);
+    assert!(offset_of!(Refusal, place) == 8 && offset_of!(Refusal, inner) == 16);
+    assert!(size_of::<Board>() == 432);
+    assert!(offset_of!(Board, given) == 81 && offset_of!(Board, notes) == 162);
+    assert!(offset_of!(Board, solution) == 324 && offset_of!(Board, solved) == 405);
+    assert!(offset_of!(Board, made) == 408 && offset_of!(Board, standing) == 416);
+    assert!(offset_of!(Board, checks) == 424);
+    assert!(size_of::<Answer>() == 456 && offset_of!(Answer, board) == 24);
+    assert!(size_of::<Checked>() == 464 && offset_of!(Checked, board) == 32);
+    assert!(size_of::<Written>() == 32 && size_of::<Shown>() == 40);
+    assert!(size_of::<CellAnswer>() == 32 && offset_of!(CellAnswer, note) == 28);
+    assert!(size_of::<YesNo>() == 32 && size_of::<Left>() == 32);
+    assert!(size_of::<ReadingAnswer>() == 288 && offset_of!(ReadingAnswer, index) == 32);
+    assert!(offset_of!(ReadingAnswer, notes) == 122);
+    assert!(size_of::<Digits>() == 9 && size_of::<PeerCells>() == 20);
+};
+
+mod c {
+    use super::{Answer, Board, CellAnswer, Checked, Digits, Left, PeerCells, ReadingAnswer, Shown, Written, YesNo};
+
+    unsafe extern "C" {
+        pub fn pawdoku_open(
+            givens: *const u8,
+            givens_length: usize,
+            solution: *const u8,
+            solution_length: usize,
+            journal: *mut u8,
+            journal_length: usize,
+            checks: *mut u8,
+            checks_length: usize,
+        ) -> Answer;
+        pub fn pawdoku_place(
+            board: Board,
+            journal: *mut u8,
+            journal_length: usize,
+            row: u8,
+            column: u8,
+            digit: u8,
+        ) -> Answer;
+        pub fn pawdoku_erase(board: Board, journal: *mut u8, journal_length: usize, row: u8, column: u8) -> Answer;
+        pub fn pawdoku_write_mark(
+            board: Board,
+            journal: *mut u8,
+            journal_length: usize,
+            row: u8,
+            column: u8,
+            digit: u8,
+        ) -> Answer;
+        pub fn pawdoku_strike_mark(
+            board: Board,
+            journal: *mut u8,
+            journal_length: usize,
+            row: u8,
+            column: u8,
+            digit: u8,
+        ) -> Answer;
+        pub fn pawdoku_undo(board: Board, journal: *const u8, journal_length: usize) -> Answer;
+        pub fn pawdoku_redo(board: Board, journal: *const u8, journal_length: usize) -> Answer;
+        pub fn pawdoku_check(board: Board, checks: *mut u8, checks_length: usize, row: u8, column: u8) -> Checked;
+        pub fn pawdoku_latest(
+            board: Board,
+            journal: *const u8,
+            journal_length: usize,
+            output: *mut u8,
+            output_length: usize,
+        ) -> Shown;
+        pub fn pawdoku_next(
+            board: Board,
+            journal: *const u8,
+            journal_length: usize,
+            output: *mut u8,
+            output_length: usize,
+        ) -> Shown;
+        pub fn pawdoku_write(
+            board: Board,
+            journal: *const u8,
+            journal_length: usize,
+            checks: *const u8,
+            checks_length: usize,
+            output: *mut u8,
+            output_length: usize,
+        ) -> Written;
+        pub fn pawdoku_reopen(
+            record: *const u8,
+            record_length: usize,
+            solution: *const u8,
+            solution_length: usize,
+            journal: *mut u8,
+            journal_length: usize,
+            checks: *mut u8,
+            checks_length: usize,
+        ) -> Answer;
+        pub fn pawdoku_reading(board: Board, journal: *const u8, journal_length: usize, k: usize) -> ReadingAnswer;
+        pub fn pawdoku_cell(board: Board, row: u8, column: u8) -> CellAnswer;
+        pub fn pawdoku_conflicts(board: Board, row: u8, column: u8) -> YesNo;
+        pub fn pawdoku_accepts_marks(board: Board, row: u8, column: u8) -> YesNo;
+        pub fn pawdoku_holds_players_digit(board: Board, row: u8, column: u8) -> YesNo;
+        pub fn pawdoku_is_solved(board: Board) -> YesNo;
+        pub fn pawdoku_is_full(board: Board) -> YesNo;
+        pub fn pawdoku_is_consistent(board: Board) -> YesNo;
+        pub fn pawdoku_can_undo(board: Board) -> YesNo;
+        pub fn pawdoku_can_redo(board: Board) -> YesNo;
+        pub fn pawdoku_digits_left(board: Board, digit: u8) -> Left;
+        pub fn pawdoku_play(
+            board: Board,
+            journal: *mut u8,
+            journal_length: usize,
+            checks: *mut u8,
+            checks_length: usize,
+            calls: *const u8,
+            calls_length: usize,
+            answers: *mut u8,
+            answers_length: usize,
+        ) -> Answer;
+        pub fn pawdoku_note_contains(note: u16, digit: u8) -> u8;
+        pub fn pawdoku_note_len(note: u16) -> usize;
+        pub fn pawdoku_note_is_empty(note: u16) -> u8;
+        pub fn pawdoku_note_digits(note: u16) -> Digits;
+        pub fn pawdoku_cell_of(row: u8, column: u8) -> usize;
+        pub fn pawdoku_band(row: u8) -> u8;
+        pub fn pawdoku_stack(column: u8) -> u8;
+        pub fn pawdoku_is_peer_of(row: u8, column: u8, row2: u8, column2: u8) -> u8;
+        pub fn pawdoku_peers(cell: usize) -> PeerCells;
+    }
+}
+
+// SAFETY, for every block below: the declarations are the header's, the structs have its layout, every field is an
+// integer (so that any bytes are a value), and each pointer with its length is a slice that Rust holds for the
+// call: valid for its length, written only where it is borrowed mutably, which also keeps it apart from the rest.
+// The library keeps no pointer.
+
+/// Opens a board on givens, triples of row, column, digit in ascending order. Refused by 1, 19, 22 to 27.
+#[must_use]
+pub fn open(givens: &[u8], solution: &[u8], journal: &mut [u8], checks: &mut [u8]) -> Answer {
+    unsafe {
+        c::pawdoku_open(
+            givens.as_ptr(),
+            givens.len(),
+            solution.as_ptr(),
+            solution.len(),
+            journal.as_mut_ptr(),
+            journal.len(),
+            checks.as_mut_ptr(),
+            checks.len(),
+        )
+    }
+}
+
+/// Places a digit. Refused by 1 to 5, 8, 9, 15.
+#[must_use]
+pub fn place(board: &Board, journal: &mut [u8], row: u8, column: u8, digit: u8) -> Answer {
+    let (lent, length) = (journal.as_mut_ptr(), journal.len());
+    unsafe { c::pawdoku_place(*board, lent, length, row, column, digit) }
+}
+
+/// Erases the player's digit. Refused by 1 to 4, 6, 15.
+#[must_use]
+pub fn erase(board: &Board, journal: &mut [u8], row: u8, column: u8) -> Answer {
+    unsafe { c::pawdoku_erase(*board, journal.as_mut_ptr(), journal.len(), row, column) }
+}
+
+/// Writes a mark. Refused by 1 to 4, 7, 8, 10, 15.
+#[must_use]
+pub fn write_mark(board: &Board, journal: &mut [u8], row: u8, column: u8, digit: u8) -> Answer {
+    let (lent, length) = (journal.as_mut_ptr(), journal.len());
+    unsafe { c::pawdoku_write_mark(*board, lent, length, row, column, digit) }
+}
+
+/// Strikes a mark. Refused by 1 to 4, 7, 11, 15.
+#[must_use]
+pub fn strike_mark(board: &Board, journal: &mut [u8], row: u8, column: u8, digit: u8) -> Answer {
+    let (lent, length) = (journal.as_mut_ptr(), journal.len());
+    unsafe { c::pawdoku_strike_mark(*board, lent, length, row, column, digit) }
+}
+
+/// Takes the latest standing move back. Refused by 1, 2, 4, 12, 14.
+#[must_use]
+pub fn undo(board: &Board, journal: &[u8]) -> Answer {
+    unsafe { c::pawdoku_undo(*board, journal.as_ptr(), journal.len()) }
+}
+
+/// Makes the next undone move again. Refused by 1, 2, 4, 13, 14.
+#[must_use]
+pub fn redo(board: &Board, journal: &[u8]) -> Answer {
+    unsafe { c::pawdoku_redo(*board, journal.as_ptr(), journal.len()) }
+}
+
+/// Compares a player's digit with the solution's and stores the check. Refused by 1 to 4, 6, 16.
+#[must_use]
+pub fn check(board: &Board, checks: &mut [u8], row: u8, column: u8) -> Checked {
+    unsafe { c::pawdoku_check(*board, checks.as_mut_ptr(), checks.len(), row, column) }
+}
+
+/// Shows the latest standing move: copies its slot into the output. Refused by 1, 2, 12, 34.
+#[must_use]
+pub fn latest(board: &Board, journal: &[u8], output: &mut [u8]) -> Shown {
+    let (out, room) = (output.as_mut_ptr(), output.len());
+    unsafe { c::pawdoku_latest(*board, journal.as_ptr(), journal.len(), out, room) }
+}
+
+/// Shows the next move to redo: copies its slot into the output. Refused by 1, 2, 13, 34.
+#[must_use]
+pub fn next(board: &Board, journal: &[u8], output: &mut [u8]) -> Shown {
+    let (out, room) = (output.as_mut_ptr(), output.len());
+    unsafe { c::pawdoku_next(*board, journal.as_ptr(), journal.len(), out, room) }
+}
+
+/// Writes the record; bytes of the output beyond it stay. Refused by 1, 2, 14, 34.
+#[must_use]
+pub fn write(board: &Board, journal: &[u8], checks: &[u8], output: &mut [u8]) -> Written {
+    unsafe {
+        c::pawdoku_write(
+            *board,
+            journal.as_ptr(),
+            journal.len(),
+            checks.as_ptr(),
+            checks.len(),
+            output.as_mut_ptr(),
+            output.len(),
+        )
+    }
+}
+
+/// Reopens a record with the puzzle's solution. Refused by 1, 17 to 33.
+///
+/// Taking back the record's undone moves uses stack for each of them: docs/PERFORMANCE.md says how much at most.
+#[must_use]
+pub fn reopen(record: &[u8], solution: &[u8], journal: &mut [u8], checks: &mut [u8]) -> Answer {
+    unsafe {
+        c::pawdoku_reopen(
+            record.as_ptr(),
+            record.len(),
+            solution.as_ptr(),
+            solution.len(),
+            journal.as_mut_ptr(),
+            journal.len(),
+            checks.as_mut_ptr(),
+            checks.len(),
+        )
+    }
+}
+
+/// The reading of move k. Refused by 1, 2, 14, 35.
+#[must_use]
+pub fn reading(board: &Board, journal: &[u8], k: usize) -> ReadingAnswer {
+    unsafe { c::pawdoku_reading(*board, journal.as_ptr(), journal.len(), k) }
+}
+
+/// What the board shows of one cell. Refused by 2, 3.
+#[must_use]
+pub fn cell(board: &Board, row: u8, column: u8) -> CellAnswer {
+    unsafe { c::pawdoku_cell(*board, row, column) }
+}
+
+/// Does the cell hold a digit that a peer also holds? Refused by 2, 3.
+#[must_use]
+pub fn conflicts(board: &Board, row: u8, column: u8) -> YesNo {
+    unsafe { c::pawdoku_conflicts(*board, row, column) }
+}
+
+/// Does the cell hold no digit, so that marks are accepted? Refused by 2, 3.
+#[must_use]
+pub fn accepts_marks(board: &Board, row: u8, column: u8) -> YesNo {
+    unsafe { c::pawdoku_accepts_marks(*board, row, column) }
+}
+
+/// Does the cell hold a digit and is no given? Refused by 2, 3.
+#[must_use]
+pub fn holds_players_digit(board: &Board, row: u8, column: u8) -> YesNo {
+    unsafe { c::pawdoku_holds_players_digit(*board, row, column) }
+}
+
+/// Is the board solved? Refused by 2.
+#[must_use]
+pub fn is_solved(board: &Board) -> YesNo {
+    unsafe { c::pawdoku_is_solved(*board) }
+}
+
+/// Does every cell hold a digit? Refused by 2.
+#[must_use]
+pub fn is_full(board: &Board) -> YesNo {
+    unsafe { c::pawdoku_is_full(*board) }
+}
+
+/// Does no cell conflict? Refused by 2.
+#[must_use]
+pub fn is_consistent(board: &Board) -> YesNo {
+    unsafe { c::pawdoku_is_consistent(*board) }
+}
+
+/// Is there a move to take back, on a board that is not solved? Refused by 2.
+#[must_use]
+pub fn can_undo(board: &Board) -> YesNo {
+    unsafe { c::pawdoku_can_undo(*board) }
+}
+
+/// Is there a move to make again, on a board that is not solved? Refused by 2.
+#[must_use]
+pub fn can_redo(board: &Board) -> YesNo {
+    unsafe { c::pawdoku_can_redo(*board) }
+}
+
+/// How many of a digit are left for its key: nine less the cells that hold it, never below 0. Refused by 2, 8.
+#[must_use]
+pub fn digits_left(board: &Board, digit: u8) -> Left {
+    unsafe { c::pawdoku_digits_left(*board, digit) }
+}
+
+/// Runs a list of calls, four bytes each: kind, row, column, digit. Writes four bytes for each into the answers:
+/// number, place (two bytes, low first), verdict. As many are run as there are whole groups of four in both.
+#[must_use]
+pub fn play(board: &Board, journal: &mut [u8], checks: &mut [u8], calls: &[u8], answers: &mut [u8]) -> Answer {
+    unsafe {
+        c::pawdoku_play(
+            *board,
+            journal.as_mut_ptr(),
+            journal.len(),
+            checks.as_mut_ptr(),
+            checks.len(),
+            calls.as_ptr(),
+            calls.len(),
+            answers.as_mut_ptr(),
+            answers.len(),
+        )
+    }
+}
+
+/// Does the note hold the mark? 1 for yes.
+#[must_use]
+pub fn note_contains(note: u16, digit: u8) -> u8 {
+    unsafe { c::pawdoku_note_contains(note, digit) }
+}
+
+/// How many of the marks 1 to 9 the note holds.
+#[must_use]
+pub fn note_len(note: u16) -> usize {
+    unsafe { c::pawdoku_note_len(note) }
+}
+
+/// Does the note hold none of the marks 1 to 9? 1 for yes.
+#[must_use]
+pub fn note_is_empty(note: u16) -> u8 {
+    unsafe { c::pawdoku_note_is_empty(note) }
+}
+
+/// The marks of the note.
+#[must_use]
+pub fn note_digits(note: u16) -> Digits {
+    unsafe { c::pawdoku_note_digits(note) }
+}
+
+/// The cell's number from 1 to 81, row by row; 0 off the grid.
+#[must_use]
+pub fn cell_of(row: u8, column: u8) -> usize {
+    unsafe { c::pawdoku_cell_of(row, column) }
+}
+
+/// The band of a row, for every byte.
+#[must_use]
+pub fn band(row: u8) -> u8 {
+    unsafe { c::pawdoku_band(row) }
+}
+
+/// The stack of a column, for every byte.
+#[must_use]
+pub fn stack(column: u8) -> u8 {
+    unsafe { c::pawdoku_stack(column) }
+}
+
+/// Do two positions share a row, a column or a box, and are two? 1 for yes.
+#[must_use]
+pub fn is_peer_of(row: u8, column: u8, row2: u8, column2: u8) -> u8 {
+    unsafe { c::pawdoku_is_peer_of(row, column, row2, column2) }
+}
+
+/// The twenty peers of a cell; zeros where there is no such cell.
+#[must_use]
+pub fn peers(cell: usize) -> PeerCells {
+    unsafe { c::pawdoku_peers(cell) }
+}
