@@ -1,0 +1,29 @@
+// The library for hosts in C, Rust and whatever links like C: every call of the board, exported under the names of include/pawdoku.h. A board goes in and comes back by value,
+// its flags as bytes; lent memory is a pointer and a length. What a host's board stands for, and what comes back after a refusal, is defined in crates/host.
+use puzzle::Refusal;
+
+pub mod asked;
+pub mod grid;
+pub mod played;
+pub mod saved;
+pub mod slots;
+
+// A move that is shown: where its slot stands in the journal, and how many of its bytes were copied. Zeros beside a refusal.
+#[repr(C)]
+pub struct Shown {
+    pub refusal: Refusal,
+    pub offset: usize,
+    pub length: usize,
+}
+
+// The digits of a note's marks, ascending, zeros behind them. C returns no bare array.
+#[repr(C)]
+pub struct Digits {
+    pub digits: [u8; 9],
+}
+
+// The peers of a cell, ascending.
+#[repr(C)]
+pub struct PeerCells {
+    pub cells: [u8; 20],
+}
