@@ -6,6 +6,8 @@ use crate::ours::Ours;
 use crate::pair::Compared;
 use crate::report::{Counts, same, same_bytes};
 use crate::rng::Rng;
+use crate::stored;
+use crate::theirs::{State, Theirs};
 use pawdoku::{Refusal, kind};
 
 /// The calls since a board was opened or reopened, with what each was answered.
@@ -25,6 +27,11 @@ impl List {
     /// How many calls.
     pub fn len(&self) -> usize {
         self.calls.len()
+    }
+
+    /// Keeps the session for the stored answers, with the original's board at its end.
+    pub fn keep(&self, theirs: &Theirs, state: &State) {
+        stored::session(&self.start.board, &self.calls, &self.answers, theirs, state);
     }
 
     /// One more call, and its answer.

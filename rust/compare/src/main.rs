@@ -3,9 +3,11 @@
 //!
 //!     compare quick|full [SEED] [--plant NAME]
 //!     compare planted [SEED]
+//!     compare stored FILE
 //!
 //! The first ends with 0 where nothing differs and every number that can occur occurred; the second plants errors
-//! into the library's answers, one after the other, and ends with 0 where each is found. Else they end with 1.
+//! into the library's answers, one after the other, and ends with 0 where each is found; the third
+//! writes a sample of what the original answered into a file. Else they end with 1.
 #![deny(unsafe_code)]
 
 mod beyond;
@@ -23,6 +25,7 @@ mod report;
 mod rng;
 mod run;
 mod script;
+mod stored;
 mod theirs;
 
 use plant::Plant;
@@ -36,13 +39,14 @@ fn main() -> ExitCode {
         ["planted", rest @ ..] => options(rest).map(|(seed, _)| find_planted(seed)),
         ["quick", rest @ ..] => options(rest).map(|(seed, plant)| compare(Form::QUICK, seed, plant)),
         ["full", rest @ ..] => options(rest).map(|(seed, plant)| compare(Form::FULL, seed, plant)),
+        ["stored", file] => Some(store(file)),
         _ => None,
     };
     match well {
         Some(true) => ExitCode::SUCCESS,
         Some(false) => ExitCode::FAILURE,
         None => {
-            eprintln!("compare quick|full [SEED] [--plant NAME]\ncompare planted [SEED]");
+            eprintln!("compare quick|full [SEED] [--plant NAME]\ncompare planted [SEED]\ncompare stored FILE");
             eprintln!("errors to plant: {}", Plant::ALL.map(|(name, _)| name).join(" "));
             ExitCode::from(2)
         }
@@ -54,6 +58,21 @@ fn compare(form: Form, seed: u64, plant: Plant) -> bool {
     run.directed();
     run.random();
     run.summary()
+}
+
+/// Writes the stored answers: the directed sessions and a sample of random ones. Nothing is written where anything differs.
+fn store(file: &str) -> bool {
+    stored::keep();
+    if !compare(Form::STORED, 1, Plant::Nothing) {
+        return false;
+    }
+    match std::fs::write(file, stored::kept()) {
+        Ok(()) => true,
+        Err(error) => {
+            eprintln!("{file}: {error}");
+            false
+        }
+    }
 }
 
 /// The seed and the error to plant.

@@ -9,6 +9,7 @@ use crate::ours::{Memory, Ours};
 use crate::plant::Plant;
 use crate::report::{Counts, same, same_bytes, same_cells};
 use crate::script::Step;
+use crate::stored;
 use crate::theirs::{Reading, State, Theirs, slot_of};
 use pawdoku::sys::{self, CellAnswer, ReadingAnswer, Shown, YesNo};
 use pawdoku::{Board, MAX_CHECKS, MAX_MOVES, Refusal};
@@ -37,6 +38,9 @@ pub fn open(givens: &[[u8; 3]], solution: &Grid, plant: Plant, counts: &mut Coun
     counts.openings += 1;
     let expected = if ascend(givens) { Theirs::open(givens, solution) } else { Err(refusal(19, 0, 0)) };
     let (said, ours) = Ours::open(givens.as_flattened(), solution, plant);
+    if expected.is_err() {
+        stored::refused_opening(givens, solution, said);
+    }
     paired("opening", expected, said, ours, solution, counts)
 }
 
@@ -49,6 +53,7 @@ pub fn reopen(record: &[u8], solution: &Grid, plant: Plant, counts: &mut Counts)
     });
     let (said, ours) = Ours::reopen(record, solution, plant);
     let pair = paired("reopening", expected, said, ours, solution, counts)?;
+    stored::reopening(record, solution, said);
     if let Ok(pair) = &pair {
         counts.reopened += 1;
         pair.memory_is_theirs()?;
@@ -105,6 +110,7 @@ impl Pair {
     /// Ends a session: everything is compared, and its calls once more as a list.
     pub fn finish(&mut self, counts: &mut Counts) -> Compared {
         self.compare_all(counts)?;
+        self.list.keep(&self.theirs, &self.state);
         self.list.replay(&self.ours, counts)
     }
 
@@ -250,7 +256,10 @@ impl Pair {
         let pair = reopened.map_err(|refused| format!("both refuse a written record: {refused}"))?;
         same("the board that was written, reopened", &self.ours.board, &pair.ours.board)?;
         same("the original's board, reopened", &self.state, &pair.state)?;
-        *self = pair;
+        // A stored session goes on with the board that was played: it is stored from its opening.
+        if !stored::keeps() {
+            *self = pair;
+        }
         Ok(())
     }
 

@@ -25,6 +25,8 @@ impl Form {
     pub const QUICK: Self = Self { name: "quick", calls: 100_000, reopenings: 10_000, enough: 5 };
     /// The whole comparison.
     pub const FULL: Self = Self { name: "full", calls: 2_000_000, reopenings: 200_000, enough: 5 };
+    /// A sample for the stored answers.
+    pub const STORED: Self = Self { name: "stored", calls: 9000, reopenings: 500, enough: 1 };
     /// To find a planted error: less is run, and the first difference is enough.
     pub const PLANTED: Self = Self { name: "planted", calls: 8000, reopenings: 800, enough: 1 };
 }

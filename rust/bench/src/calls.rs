@@ -1,0 +1,134 @@
+//! Each call by itself: one board for each cell that is timed, and the same call made on all of them in turn.
+
+use crate::pair::{Call, Ours, heading, line, make, median_and_worst};
+use crate::puzzle::{Puzzle, column, peers, position, row};
+use original::board::Board as Theirs;
+use pawdoku::sys;
+use std::hint::black_box;
+use std::time::Instant;
+
+/// One board for each cell, on both sides.
+struct Boards<'a> {
+    puzzle: &'a Puzzle,
+    theirs: Vec<Theirs>,
+    ours: Vec<Ours>,
+    /// For each name the time of a call in each round, theirs and ours.
+    times: Vec<(&'static str, Vec<f64>, Vec<f64>)>,
+    next: usize,
+}
+
+impl Boards<'_> {
+    fn note(&mut self, name: &'static str, theirs: f64, ours: f64) {
+        if self.next == self.times.len() {
+            self.times.push((name, Vec::new(), Vec::new()));
+        }
+        let (_, t, o) = &mut self.times[self.next];
+        t.push(theirs);
+        o.push(ours);
+        self.next += 1;
+    }
+
+    fn time(&mut self, name: &'static str, theirs: impl Fn(&mut Theirs, usize), ours: impl Fn(&mut Ours, usize)) {
+        let calls = self.puzzle.cells.len() as f64;
+        let start = Instant::now();
+        for (board, &cell) in self.theirs.iter_mut().zip(&self.puzzle.cells) {
+            theirs(board, cell);
+        }
+        let t = start.elapsed().as_nanos() as f64 / calls;
+        let start = Instant::now();
+        for (board, &cell) in self.ours.iter_mut().zip(&self.puzzle.cells) {
+            ours(board, cell);
+        }
+        self.note(name, t, start.elapsed().as_nanos() as f64 / calls);
+    }
+
+    fn call(&mut self, name: &'static str, call: impl Fn(usize, u8) -> Call) {
+        let solution = self.puzzle.solution;
+        self.time(
+            name,
+            |board, cell| make(board, call(cell, solution[cell])),
+            |board, cell| board.make(call(cell, solution[cell])),
+        );
+    }
+
+    fn opened(&mut self) {
+        let puzzle = self.puzzle;
+        self.ours = puzzle.cells.iter().map(|_| Ours::unopened()).collect();
+        self.theirs.clear();
+        let calls = puzzle.cells.len() as f64;
+        let start = Instant::now();
+        for _ in &puzzle.cells {
+            self.theirs.push(Theirs::open(puzzle.givens.iter().copied()).expect("the puzzle opens"));
+        }
+        let t = start.elapsed().as_nanos() as f64 / calls;
+        let start = Instant::now();
+        for board in &mut self.ours {
+            board.open(puzzle);
+        }
+        self.note("open", t, start.elapsed().as_nanos() as f64 / calls);
+    }
+
+    /// Pencils the digit that is placed later into every peer that takes it.
+    fn pencil(&mut self) {
+        let puzzle = self.puzzle;
+        for ((theirs, ours), &cell) in self.theirs.iter_mut().zip(&mut self.ours).zip(&puzzle.cells) {
+            for peer in peers(cell).filter(|&peer| !puzzle.is_given(peer)) {
+                let call = Call::Write(peer, puzzle.solution[cell]);
+                make(theirs, call);
+                ours.make(call);
+            }
+        }
+    }
+
+    fn round(&mut self, pencilled: bool) {
+        self.next = 0;
+        self.opened();
+        if pencilled {
+            self.pencil();
+        }
+        self.call("write mark", Call::Write);
+        self.call("undo of a mark", |_, _| Call::Undo);
+        self.call("redo of a mark", |_, _| Call::Redo);
+        self.call("strike mark", Call::Strike);
+        self.call("place", Call::Place);
+        self.call("undo of a place", |_, _| Call::Undo);
+        self.call("redo of a place", |_, _| Call::Redo);
+        self.call("check", |cell, _| Call::Check(cell));
+        self.time(
+            "cell question",
+            |board, cell| {
+                black_box(board.cell(position(cell)));
+            },
+            |board, cell| {
+                black_box(sys::cell(&board.board, row(cell), column(cell)));
+            },
+        );
+        self.time(
+            "is it consistent",
+            |board, _| {
+                black_box(board.is_consistent());
+            },
+            |board, _| {
+                black_box(sys::is_consistent(&board.board));
+            },
+        );
+        self.call("erase", |cell, _| Call::Erase(cell));
+        self.call("undo of an erase", |_, _| Call::Undo);
+    }
+}
+
+pub fn table(puzzle: &Puzzle, rounds: usize) {
+    original::solver::load(&puzzle.solution);
+    for pencilled in [false, true] {
+        let mut boards = Boards { puzzle, theirs: Vec::new(), ours: Vec::new(), times: Vec::new(), next: 0 };
+        for _ in 0..rounds {
+            boards.round(pencilled);
+        }
+        let marks = if pencilled { "the digit pencilled into every peer" } else { "no marks" };
+        heading(&format!("call, {marks}"));
+        for (name, mut theirs, mut ours) in boards.times {
+            line(name, median_and_worst(&mut theirs).0, median_and_worst(&mut ours).0);
+        }
+        println!();
+    }
+}

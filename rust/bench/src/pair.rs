@@ -1,0 +1,86 @@
+//! A board of the original and one of the library, side by side.
+
+use crate::puzzle::{Puzzle, column, position, row};
+use original::board::Board as Theirs;
+use pawdoku::sys::{self, Board};
+
+/// A board of the library with its lent memory.
+pub struct Ours {
+    pub board: Board,
+    pub journal: Vec<u8>,
+    pub checks: Vec<u8>,
+}
+
+impl Ours {
+    pub fn unopened() -> Self {
+        Self { board: Board::ZERO, journal: vec![0; pawdoku::JOURNAL_BYTES], checks: vec![0; pawdoku::CHECK_MEMORY] }
+    }
+
+    #[inline]
+    pub fn open(&mut self, puzzle: &Puzzle) {
+        let answer = sys::open(&puzzle.bytes, &puzzle.solution, &mut self.journal, &mut self.checks);
+        assert_eq!(answer.refusal.number, 0);
+        self.board = answer.board;
+    }
+
+    #[inline]
+    pub fn make(&mut self, call: Call) {
+        let (board, journal) = (&self.board, &mut self.journal);
+        let answer = match call {
+            Call::Place(cell, digit) => sys::place(board, journal, row(cell), column(cell), digit),
+            Call::Erase(cell) => sys::erase(board, journal, row(cell), column(cell)),
+            Call::Write(cell, digit) => sys::write_mark(board, journal, row(cell), column(cell), digit),
+            Call::Strike(cell, digit) => sys::strike_mark(board, journal, row(cell), column(cell), digit),
+            Call::Undo => sys::undo(board, journal),
+            Call::Redo => sys::redo(board, journal),
+            Call::Check(cell) => {
+                let answer = sys::check(board, &mut self.checks, row(cell), column(cell));
+                assert_eq!(answer.refusal.number, 0);
+                self.board = answer.board;
+                return;
+            }
+        };
+        assert_eq!(answer.refusal.number, 0);
+        self.board = answer.board;
+    }
+}
+
+/// A call that both accept.
+#[derive(Clone, Copy)]
+pub enum Call {
+    Place(usize, u8),
+    Erase(usize),
+    Write(usize, u8),
+    Strike(usize, u8),
+    Undo,
+    Redo,
+    Check(usize),
+}
+
+#[inline]
+pub fn make(board: &mut Theirs, call: Call) {
+    let made = match call {
+        Call::Place(cell, digit) => board.place(position(cell), digit),
+        Call::Erase(cell) => board.erase(position(cell)),
+        Call::Write(cell, digit) => board.write_mark(position(cell), digit),
+        Call::Strike(cell, digit) => board.strike_mark(position(cell), digit),
+        Call::Undo => board.undo(),
+        Call::Redo => board.redo(),
+        Call::Check(cell) => board.check(position(cell)).map(drop),
+    };
+    made.expect("the library accepted this call");
+}
+
+/// The median and the worst of some times.
+pub fn median_and_worst(times: &mut [f64]) -> (f64, f64) {
+    times.sort_by(f64::total_cmp);
+    (times[times.len() / 2], times[times.len() - 1])
+}
+
+pub fn heading(first: &str) {
+    println!("| {first} | original | library | original / library |\n|---|---:|---:|---:|");
+}
+
+pub fn line(name: &str, theirs: f64, ours: f64) {
+    println!("| {name} | {theirs:.0} | {ours:.0} | {:.2} |", theirs / ours);
+}
