@@ -7,3 +7,4 @@ pub mod Posed
 pub mod Refusals
 pub mod GivenBytes
 pub mod Rows
+pub mod Columns

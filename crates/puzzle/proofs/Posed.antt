@@ -3,21 +3,24 @@
 -- Assumes nothing.
 use Prim.Native.Nat.{ℕ, zero, suc, _≤_, _<_}
 use mathlib.Core.Path.{_≡_, refl, sym, ap, _∙_}
-use mathlib.Core.Bool.{true, not}
+use mathlib.Core.Bool.{true, false, not}
 use mathlib.Core.List.{List, [], _∷_}
 use native.Mathlib.Nat.{le-of-suc-le-suc, not-suc-le-zero}
 use native.Mathlib.Omega.{arith}
 use borrow.Author.Tests.{leb-true, leb-false, le-leb, lt-leb, eqb-true, eqb-false, eq-eqb, ne-eqb, not-false}
 use lib.Dec.{eqb}
 use lib.ListN.{length, getD}
+use Rattle.sudoku.specs.Tests.{both, every}
 use Rattle.sudoku.specs.Grid.{inRange, onGrid, isCell, arePeers, peersOf, at}
-use Rattle.sudoku.proofs.Walks.{by-test, pick-true, pick-false, not-is-false}
+use Rattle.sudoku.proofs.Walks.{by-test, both-left, both-right, every-at, pick-true, pick-false, not-is-false}
 use Rattle.sudoku.proofs.Grid.{cell-from, cell-to, is-cell, in-range, range-from, range-to, peers-length, peers-from, peers-cell, peers-peer, peers-has, PeerAt}
 use Rattle.sudoku.proofs.Each.{Each}
 use Rattle.puzzle.specs.declared.Given.{Given}
 use Rattle.puzzle.specs.Refusals.{refusal, accepted, isAccepted, refusedIf, firstRefused}
 use Rattle.puzzle.specs.Givens.{ascending}
+use Rattle.puzzle.specs.Puzzle.{isFull, isConsistent, settled}
 use Rattle.puzzle.specs.Vouch.{nothingLeft, solutionDigit, firstHolding, solutionConflict, givenMatches, givensMatch, vouch, wellPosed}
+use Rattle.puzzle.proofs.Puzzle.{full-exactly, consistent-exactly, settled-fresh}
 use Rattle.puzzle.proofs.Accepted.{accepts, if-not, if-passed, or-else-of, or-else-left, or-else-right, or-else-parts, first-of, first-at}
 use Rattle.puzzle.proofs.Givens.{OnGrid, Matches, Rising, rising}
 
@@ -45,6 +48,11 @@ module _ (solution : List ℕ) (cell : ℕ) where
       accepts (solutionDigit solution cell)
       (or-else-of _ _ (accepts _ (if-not _ (refusal 23 cell 0) (ne-eqb (at solution cell) 0 (λ e. omega (arith, e, range-from _ h)))))
       (if-not _ (refusal 24 cell 0) (not-is-false _ (le-leb _ 9 (range-to _ h)))))
+
+-- 81 digits pass at all cells
+pub digits-pass : (solution : List ℕ) → every (λ cell. inRange (at solution cell)) 81 1 ≡ true → firstRefused (solutionDigit solution) 81 1 ≡ accepted
+digits-pass solution t =
+    first-of (solutionDigit solution) 81 1 (λ cell a b. digit-passes solution cell (every-at (λ k. inRange (at solution k)) 81 1 cell t a b))
 
 -- ---- 25 at a cell
 
@@ -93,6 +101,17 @@ module _ (solution : List ℕ) (cell : ℕ) (p : isCell cell ≡ true) where
           (λ i u e.
           let v : i < 20 = omega (arith, u, peers-length cell) in
           h (getD (peersOf cell) i 0) (peers-cell cell p i v) (peers-peer cell p i v) (sym e))
+
+-- a full grid in which no cell conflicts passes at all 81 cells
+pub settled-passes : (digits : List ℕ) → settled digits false ≡ true → firstRefused (solutionConflict digits) 81 1 ≡ accepted
+settled-passes digits t =
+    let s : both (isFull digits) (isConsistent digits) ≡ true = sym (settled-fresh digits) ∙ t in
+    first-of (solutionConflict digits) 81 1
+    (λ cell a b.
+    let p : isCell cell ≡ true = is-cell cell a (omega arith) in
+    conflict-passes digits cell p
+    (λ other q w e. full-exactly digits .0 (both-left _ _ s) cell p
+    (consistent-exactly digits .0 (both-right (isFull digits) _ s) cell other p q w e)))
 
 -- ---- 26 and 27
 

@@ -3,3 +3,4 @@ pub mod Givens
 pub mod Rows
 pub mod Puzzle
 pub mod Vouch
+pub mod Units

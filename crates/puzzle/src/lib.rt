@@ -4,17 +4,23 @@ use sudoku::PEERS_PER_CELL;
 use sudoku::SIDE;
 use sudoku::peers;
 use sudoku::wide;
+use units::boxes_clear;
+use units::columns_clear;
+use units::rows_clear;
 ghost use mathlib.Core.Path.{_≡_};
 ghost use Prim.Native.Nat.{_≤_, _-_};
 ghost use lib.Dec.{eqb};
 ghost use lib.ListN.{getD};
-ghost use Rattle.sudoku.specs.Tests.{count};
+ghost use mathlib.Core.Bool.{not};
+ghost use Rattle.sudoku.specs.Tests.{both, count};
 ghost use Rattle.sudoku.specs.Grid.{at};
 ghost use Rattle.puzzle.specs.Puzzle.{isHeld, holdsDigit, conflicts as conflictsAt, isFull, isConsistent, settled as settledBy, digitsLeft};
 
 pub mod answer;
 pub mod given_bytes;
+mod orders;
 pub mod proof;
+mod units;
 
 // The answer of a call: its number in document 01, 0 where the call is accepted; place and inner are 0 where document 01 says nothing of them.
 #[repr(C)]
@@ -97,32 +103,40 @@ pub fn conflicts(digits: &[u8; 81], cell: usize) -> bool
     is_held(digits, digit, peers(cell))
 }
 
-// Whether every cell holds a digit.
+// What was found so far, and a cell's digit: there is one.
+fn held_step(full: bool, digit: u8) -> bool
+    ensures { λ r. ⌜ r ≡ both full (not (eqb digit 0)) ⌝ }
+{
+    if digit == 0 {
+        return false;
+    }
+    full
+}
+
+// Whether every cell holds a digit. The loop has no early exit, so that it tests many cells at once.
 pub fn is_full(digits: &[u8; 81]) -> bool
     ensures { λ r. ⌜ r ≡ isFull (now (digits .entry)) ⌝ }
 {
+    let mut full = true;
     let mut cell: usize = 1;
     while cell <= CELLS {
-        if !holds_digit(digits, cell) {
-            return false;
-        }
+        full = held_step(full, digits[cell - 1]);
         cell += 1;
     }
-    true
+    full
 }
 
-// Whether no cell conflicts.
+// Whether no cell conflicts: no column, row or box holds a digit twice.
 pub fn is_consistent(digits: &[u8; 81]) -> bool
     ensures { λ r. ⌜ r ≡ isConsistent (now (digits .entry)) ⌝ }
 {
-    let mut cell: usize = 1;
-    while cell <= CELLS {
-        if conflicts(digits, cell) {
-            return false;
-        }
-        cell += 1;
+    if !columns_clear(digits) {
+        return false;
     }
-    true
+    if !rows_clear(digits) {
+        return false;
+    }
+    boxes_clear(digits)
 }
 
 // Whether the puzzle is solved after a digit was put into a cell. Solved is final; the full grid is the cheaper test and comes first.

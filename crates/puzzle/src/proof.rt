@@ -9,16 +9,21 @@ use crate::digit_at;
 use crate::given_bytes::given_at;
 use crate::given_bytes::is_ascending;
 use crate::index_of;
+use crate::settled;
 use sudoku::CELLS;
 use sudoku::LINE;
 use sudoku::PEERS_PER_CELL;
 use sudoku::SIDE;
 use sudoku::cell_of;
+use sudoku::in_range;
 use sudoku::on_grid;
 use sudoku::peers;
 use sudoku::wide;
 ghost use mathlib.Core.Path.{_≡_};
-ghost use Prim.Native.Nat.{_<_};
+ghost use Prim.Native.Nat.{_≤_, _<_};
+ghost use lib.ListN.{length};
+ghost use Rattle.sudoku.specs.Tests.{both, every};
+ghost use Rattle.sudoku.specs.Grid.{inRange, at};
 ghost use Rattle.puzzle.specs.Refusals.{firstRefused};
 ghost use Rattle.puzzle.specs.Givens.{givensIn};
 ghost use Rattle.puzzle.specs.Rows.{rowAt, rowsOf, flat as flatOf};
@@ -38,8 +43,8 @@ fn solution_digit(solution: &[u8], cell: usize) -> Refusal
     accepted()
 }
 
-// 23 and 24: the first cell of the solution, in grid order, that is empty or holds something out of range. A solution that is too short is not full.
-pub fn filled(solution: &[u8]) -> Refusal
+// 23 and 24 over the cells in grid order.
+fn first_unfilled(solution: &[u8]) -> Refusal
     ensures { λ r. ⌜ r ≡ firstRefused (solutionDigit (now (solution .entry))) 81 1 ⌝ }
 {
     let mut cell: usize = 1;
@@ -51,6 +56,44 @@ pub fn filled(solution: &[u8]) -> Refusal
         cell += 1;
     }
     accepted()
+}
+
+// What was found so far, and a byte: a digit 1 to 9.
+fn digit_step(ok: bool, digit: u8) -> bool
+    ensures { λ r. ⌜ r ≡ both ok (inRange digit) ⌝ }
+{
+    if in_range(digit) {
+        return ok;
+    }
+    false
+}
+
+// Whether the first 81 bytes are digits 1 to 9. The loop has no early exit, so that it tests many at once.
+fn all_digits(solution: &[u8]) -> bool
+    requires { ⌜ 81 ≤ length (now solution) ⌝ }
+    ensures { λ r. ⌜ r ≡ every (λ cell. inRange (at (now (solution .entry)) cell)) 81 1 ⌝ }
+{
+    let mut ok = true;
+    let mut cell: usize = 1;
+    while cell <= CELLS {
+        ok = digit_step(ok, solution[cell - 1]);
+        cell += 1;
+    }
+    ok
+}
+
+// 23 and 24: the first cell of the solution, in grid order, that is empty or holds something out of range. A solution that is too short is not full.
+// The solution is tested as a whole first; the walk is slower, and is made only where it has something to name.
+pub fn filled(solution: &[u8]) -> Refusal
+    ensures { λ r. ⌜ r ≡ firstRefused (solutionDigit (now (solution .entry))) 81 1 ⌝ }
+{
+    if solution.len() < CELLS {
+        return first_unfilled(solution);
+    }
+    if all_digits(solution) {
+        return accepted();
+    }
+    first_unfilled(solution)
 }
 
 // The nine digits of the solution's row r, counted from 0.
@@ -134,11 +177,15 @@ fn first_conflict(digits: &[u8; 81]) -> Refusal
     accepted()
 }
 
-// 25: whether two peers of the solution hold one digit; the first such pair in grid order.
+// 25: whether two peers of the solution hold one digit; the first such pair in grid order. The solution is tested as a whole
+// first; the walk is slower, and is made only where it has something to name.
 pub fn consistent(rows: [[u8; 9]; 9]) -> Refusal
     ensures { λ r. ⌜ r ≡ firstRefused (solutionConflict (flatOf rows)) 81 1 ⌝ }
 {
     let digits = flat(rows);
+    if settled(&digits, false) {
+        return accepted(); // all 81 cells hold digits and none conflicts
+    }
     first_conflict(&digits)
 }
 

@@ -1,68 +1,40 @@
--- `puzzle::proof::filled` meets its contract: what is left to test from `cell` on decides.
+-- `puzzle::proof::filled` meets its contract: that of the walk, which finds nothing where all 81 bytes are digits.
 -- Assumes nothing.
-use Prim.Native.Nat.{_≤_, _-_}
-use mathlib.Core.Path.{_≡_, refl, sym, _∙_}
-use native.Mathlib.Omega.{arith}
+use mathlib.Core.Path.{sym, _∙_}
 use borrow.Author.Needs.{needs}
-use Rattle.puzzle.specs.Refusals.{firstRefused}
-use Rattle.puzzle.proofs.Refusals.{walk-refused, walk-more, walk-all}
-use Rattle.puzzle.specs.Vouch.{solutionDigit}
+use Rattle.puzzle.proofs.Posed.{digits-pass}
 use Rattle.puzzle.proofs.proof.filled.Statement.{statement}
 use Rattle.puzzle.proofs.proof.filled.Tie as tie
 
-abbrev Inv-loop : tie.InvT-loop
-Inv-loop solution cell₀ cell = (1 ≤ cell) × (cell ≤ 82) × (firstRefused (solutionDigit solution) 81 1 ≡ firstRefused (solutionDigit solution) (82 - cell) cell)
+first-unfilled-requires : tie.Need-first-unfilled-requires
+first-unfilled-requires c κs = search needs
 
-abbrev μ-loop : tie.MeasureT-loop
-μ-loop solution cell₀ cell = 82 - cell
+returns : tie.Need-returns
+returns c = c .first-unfilled .ensures
 
-loop-holds : tie.Need-loop-holds Inv-loop μ-loop
-loop-holds c = (omega arith, omega arith, refl)
+all-digits-requires : tie.Need-all-digits-requires
+all-digits-requires c κs = search needs
 
-solution-digit-requires : tie.Need-solution-digit-requires Inv-loop μ-loop
-solution-digit-requires c κs = search needs
-
-returns : tie.Need-returns Inv-loop μ-loop
-returns c =
-    let turn = c .before .before .before .before .loop in
-    sym (turn .inv .2 ∙ walk-refused (solutionDigit (c .before .before .before .before .before .before .args .solution .now)) 82 (turn .cell)
-    (c .before .before .solution-digit .result) (omega arith) (c .before .before .solution-digit .ensures) (c .if1 .taken))
-
-add-cell : tie.Need-add-cell Inv-loop μ-loop
-add-cell c = search needs
-
-loop-less : tie.Need-loop-less Inv-loop μ-loop
-loop-less c = search needs
-
-loop-again : tie.Need-loop-again Inv-loop μ-loop
-loop-again c =
-    let turn = c .before .before .before .before .loop in (
-      omega arith,
-      omega arith,
-      turn .inv .2 ∙ walk-more (solutionDigit (c .before .before .before .before .before .before .args .solution .now)) 82
-          (turn .cell) (c .before .before .solution-digit .result) (omega arith) (c .before .before .solution-digit .ensures) (c .if1 .left),
-    )
-
-accepted-requires : tie.Need-accepted-requires Inv-loop μ-loop
+accepted-requires : tie.Need-accepted-requires
 accepted-requires c κs = search needs
 
-returns-2 : tie.Need-returns-2 Inv-loop μ-loop
-returns-2 c =
-    let turn = c .before .before .loop in
-    c .accepted .ensures ∙ sym (turn .inv .2 ∙ walk-all (solutionDigit (c .before .before .before .before .args .solution .now)) 82 (turn .cell)
-    (omega arith))
+returns-2 : tie.Need-returns-2
+returns-2 c = c .accepted .ensures ∙ sym (digits-pass _ (sym (c .before .before .all-digits .ensures) ∙ c .before .if2 .taken))
+
+first-unfilled-requires-2 : tie.Need-first-unfilled-requires-2
+first-unfilled-requires-2 c κs = search needs
+
+returns-3 : tie.Need-returns-3
+returns-3 c = c .first-unfilled2 .ensures
 
 pub filled-spec : {M : Type 1} → statement M
 filled-spec =
     tie.close
     (tie.spec
-    Inv-loop
-    μ-loop
-    loop-holds
-    solution-digit-requires
+    first-unfilled-requires
     returns
-    add-cell
-    loop-less
-    loop-again
+    all-digits-requires
     accepted-requires
-    returns-2)
+    returns-2
+    first-unfilled-requires-2
+    returns-3)
