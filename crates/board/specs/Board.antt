@@ -15,6 +15,20 @@ use Rattle.journal.specs.Counts.{counts}
 use Rattle.journal.specs.State.{State, opening}
 use Rattle.board.specs.declared.Board.{Board}
 
+-- a board of its parts
+abbrev pub whole : List ℕ → List Bool → List ℕ → List ℕ → Bool → ℕ → ℕ → ℕ → Board
+whole digits given notes solution solved made standing checks =
+    record {
+      digits = digits;
+      given = given;
+      notes = notes;
+      solution = solution;
+      solved = solved;
+      made = made;
+      standing = standing;
+      checks = checks;
+    }
+
 -- what moves read and change of a board
 unfoldable pub stateOf : Board → State
 stateOf b = record { given = b .given; digits = b .digits; notes = b .notes; solved = b .solved }

@@ -3,12 +3,12 @@ use crate::Board;
 use journal::MAX_CHECKS;
 use journal::MAX_MOVES;
 ghost use mathlib.Core.Path.{_≡_};
-ghost use mathlib.Core.Bool.{not};
+ghost use mathlib.Core.Bool.{false, not};
 ghost use lib.Dec.{leb, eqb};
 ghost use Rattle.sudoku.specs.Tests.{both, either, every};
 ghost use Rattle.sudoku.specs.Grid.{inRange};
 ghost use Rattle.note.specs.Note.{isNote};
-ghost use Rattle.board.specs.Board.{isBoard, digitValue, noteValue, solutionValue};
+ghost use Rattle.board.specs.Board.{whole, isBoard, digitValue, noteValue, solutionValue};
 
 // What was found so far, and a cell's digit: none above 9, and no given without one.
 fn digit_step(ok: bool, digit: u8, given: bool) -> bool
@@ -80,24 +80,50 @@ fn solution_values(solution: &[u8; 81]) -> bool
     ok
 }
 
+// Whether number 2 does not speak of a board value of these parts. It does not ask whether the board is solved.
+pub fn is_value<'a>(
+    digits: &'a [u8; 81],
+    given: &'a [bool; 81],
+    notes: &'a [u16; 81],
+    solution: &'a [u8; 81],
+    made: usize,
+    standing: usize,
+    checks: usize,
+) -> bool
+    ensures { λ r. ⌜ r ≡ isBoard (whole (now (digits .entry)) (now (given .entry)) (now (notes .entry)) (now (solution .entry)) false made standing checks) ⌝ }
+{
+    if made > MAX_MOVES {
+        return false;
+    }
+    if standing > made {
+        return false;
+    }
+    if checks > MAX_CHECKS {
+        return false;
+    }
+    if !digit_values(digits, given) {
+        return false;
+    }
+    if !note_values(notes) {
+        return false;
+    }
+    solution_values(solution)
+}
+
 // Whether number 2 does not speak of the board value.
 pub fn is_board(board: Board) -> bool
     ensures { λ r. ⌜ r ≡ isBoard board ⌝ }
 {
-    if board.made > MAX_MOVES {
-        return false;
-    }
-    if board.standing > board.made {
-        return false;
-    }
-    if board.checks > MAX_CHECKS {
-        return false;
-    }
-    if !digit_values(&board.digits, &board.given) {
-        return false;
-    }
-    if !note_values(&board.notes) {
-        return false;
-    }
-    solution_values(&board.solution)
+    let made = board.made;
+    let standing = board.standing;
+    let checks = board.checks;
+    is_value(
+        &board.digits,
+        &board.given,
+        &board.notes,
+        &board.solution,
+        made,
+        standing,
+        checks,
+    )
 }

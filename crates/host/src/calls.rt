@@ -4,8 +4,20 @@ use crate::HostBoard;
 use crate::HostChecked;
 use crate::answered;
 use crate::board_in;
+use crate::flag_of;
+use crate::flags_in;
 use crate::judged;
+use crate::made_in;
+use journal::Counts;
 use journal::Move;
+use journal::slots::write_slot;
+use journal::steps::after_record;
+use play::moves::perform_digit;
+use play::moves::perform_notes;
+use play::moves::slot_of;
+use play::numbers::number_of_call;
+use puzzle::answer::accepted;
+use puzzle::answer::refusal;
 ghost use mathlib.Core.Path.{_≡_};
 ghost use Rattle.play.specs.Play.{playOf, undoOf, redoOf};
 ghost use Rattle.play.specs.Check.{checkOf};
@@ -15,7 +27,43 @@ ghost use Rattle.host.specs.Host.{boardIn, answered as answeredOf, judge
 pub fn play(board: HostBoard, journal: &mut [u8], m: Move) -> HostAnswer
     ensures { λ r. ⌜ (r ≡ answeredOf board (playOf (boardIn board) (now (journal .entry)) m .answer)) × (now (journal .exit) ≡ playOf (boardIn board) (now (journal .entry)) m .journal) ⌝ }
 {
-    answered(board, play::moves::play(board_in(board), journal, m))
+    let mut next = board;
+    let solved = board.solved == 1;
+    let given = flags_in(&next.given);
+    let made = made_in(&next.given, board.solved, board.made);
+    let n = number_of_call(
+        &next.digits,
+        &given,
+        &next.notes,
+        &next.solution,
+        solved,
+        made,
+        board.standing,
+        board.checks,
+        journal.len(),
+        m,
+    );
+    if n != 0 {
+        return HostAnswer {
+            refusal: refusal(n, 0, 0),
+            board: board,
+        };
+    }
+    let slot = slot_of(&next.digits, &next.notes, m);
+    write_slot(journal, board.standing, slot);
+    let counts = after_record(Counts {
+        made: made,
+        standing: board.standing,
+    });
+    let status = perform_digit(&mut next.digits, solved, m);
+    perform_notes(&mut next.notes, m);
+    next.solved = flag_of(status);
+    next.made = counts.made;
+    next.standing = counts.standing;
+    HostAnswer {
+        refusal: accepted(),
+        board: next,
+    }
 }
 
 // Takes the latest standing move back.

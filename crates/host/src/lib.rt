@@ -9,8 +9,10 @@ use journal::MAX_MOVES;
 use puzzle::Refusal;
 ghost use mathlib.Core.Path.{_≡_};
 ghost use lib.Dec.{leb};
-ghost use Rattle.sudoku.specs.Tests.{both, bit, every};
-ghost use Rattle.host.specs.Host.{flagValue, hasFlags, flagsIn, madeIn, boardIn, flagsOf, hostOf, answered as answeredOf, judged as judgedOf, opened as openedOf};
+ghost use Prim.Native.Nat.{_+_};
+ghost use Rattle.sudoku.specs.Tests.{pick, both, bit, every};
+ghost use Rattle.journal.specs.Limits.{maxMoves};
+ghost use Rattle.host.specs.Host.{flagValue, hasFlags, flagsIn, boardIn, flagsOf, hostOf, answered as answeredOf, judged as judgedOf, opened as openedOf};
 
 // A board by value, its flags as bytes.
 #[repr(C)]
@@ -66,14 +68,22 @@ fn flag_values(given: &[u8; 81]) -> bool
     ok
 }
 
+// Whether each of these flags is 0 or 1.
+fn are_flags(given: &[u8; 81], solved: u8) -> bool
+    ensures { λ r. ⌜ r ≡ both (leb solved 1) (every (flagValue (now (given .entry))) 81 1) ⌝ }
+{
+    if solved > 1 {
+        return false;
+    }
+    flag_values(given)
+}
+
 // Whether each flag of the board is 0 or 1.
 pub fn has_flags(board: HostBoard) -> bool
     ensures { λ r. ⌜ r ≡ hasFlags board ⌝ }
 {
-    if board.solved > 1 {
-        return false;
-    }
-    flag_values(&board.given)
+    let solved = board.solved;
+    are_flags(&board.given, solved)
 }
 
 fn flags_in(given: &[u8; 81]) -> [bool; 81]
@@ -89,11 +99,11 @@ fn flags_in(given: &[u8; 81]) -> [bool; 81]
 }
 
 // The moves that a host's board counts; more than a journal holds where a flag is neither 0 nor 1.
-fn made_in(board: HostBoard) -> usize
-    ensures { λ r. ⌜ r ≡ madeIn board ⌝ }
+fn made_in(given: &[u8; 81], solved: u8, made: usize) -> usize
+    ensures { λ r. ⌜ r ≡ pick (both (leb solved 1) (every (flagValue (now (given .entry))) 81 1)) made (maxMoves + 1) ⌝ }
 {
-    if has_flags(board) {
-        return board.made;
+    if are_flags(given, solved) {
+        return made;
     }
     MAX_MOVES + 1
 }
@@ -106,13 +116,15 @@ pub fn board_in(board: HostBoard) -> Board
     let given = flags_in(&board.given);
     let notes = board.notes;
     let solution = board.solution;
-    let made = made_in(board);
+    let solved = board.solved;
+    let counted = board.made;
+    let made = made_in(&board.given, solved, counted);
     Board {
         digits: digits,
         given: given,
         notes: notes,
         solution: solution,
-        solved: board.solved == 1,
+        solved: solved == 1,
         made: made,
         standing: board.standing,
         checks: board.checks,

@@ -1,3 +1,5 @@
 pub mod Joined
 pub mod Accepted
 pub mod Slots
+pub mod Parts
+pub mod Cells

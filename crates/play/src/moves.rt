@@ -1,4 +1,7 @@
 // The four moves: what each one does to the board, what it displaces, and how it is recorded.
+use crate::notes::strike_all_in;
+use crate::notes::strike_in;
+use crate::notes::write_in;
 use crate::numbers::call_number;
 use board::Answer;
 use board::Board;
@@ -6,9 +9,6 @@ use journal::Counts;
 use journal::Move;
 use journal::Slot;
 use journal::notes::holders;
-use journal::notes::strike_all;
-use journal::notes::strike_at;
-use journal::notes::write_at;
 use journal::slots::write_slot;
 use journal::steps::after_record;
 use puzzle::answer::accepted;
@@ -16,9 +16,11 @@ use puzzle::answer::refusal;
 use puzzle::digit_at;
 use puzzle::index_of;
 use puzzle::settled;
-use sudoku::CELLS;
 use sudoku::cell_of;
+use sudoku::peers;
 ghost use mathlib.Core.Path.{_≡_};
+ghost use mathlib.Core.Bool.{false};
+ghost use mathlib.Core.List.{[]};
 ghost use Prim.Native.Nat.{_*_};
 ghost use Rattle.sudoku.specs.Grid.{put, peersOf};
 ghost use Rattle.journal.specs.Limits.{slotBytes};
@@ -26,33 +28,39 @@ ghost use Rattle.journal.specs.Bytes.{laid};
 ghost use Rattle.journal.specs.State.{putDigit, withNotes, strikeAll, strikeAt, writeAt, perform as performOf};
 ghost use Rattle.journal.specs.Slots.{slotFor, bytesOf};
 ghost use Rattle.board.specs.Board.{stateOf, countsOf, moved};
+ghost use Rattle.play.specs.Parts.{parts};
 ghost use Rattle.play.specs.Play.{recordMove, playOf, placeOf, eraseOf, writeMarkOf, strikeMarkOf};
 
-// The digits with one put at a cell; where the grid has no such cell they stay as they are.
-fn with_digit(digits: [u8; 81], cell: usize, digit: u8) -> [u8; 81]
-    ensures { λ r. ⌜ r ≡ put digits cell digit ⌝ }
+// A digit put at a cell, in place; where the grid has no such cell the digits stay as they are.
+fn set_digit(digits: &mut [u8; 81], cell: usize, digit: u8)
+    ensures { λ _. ⌜ now (digits .exit) ≡ put (now (digits .entry)) cell digit ⌝ }
 {
+    let all: &mut [u8] = digits;
     let at = index_of(cell);
-    if at < CELLS {
-        let mut out = digits;
-        out[at] = digit;
-        return out;
+    if at >= all.len() {
+        return;
     }
-    digits
+    all[at] = digit;
 }
 
-// A digit put into a cell, which settles the status; 0 empties the cell, which settles nothing.
+// A digit put into a cell, in place, which settles the status that is answered; 0 empties the cell, which settles nothing.
+pub fn put_in(digits: &mut [u8; 81], solved: bool, cell: usize, digit: u8) -> bool
+    ensures { λ r. ⌜ (r ≡ putDigit (parts [] (now (digits .entry)) [] solved) cell digit .solved) × (now (digits .exit) ≡ putDigit (parts [] (now (digits .entry)) [] solved) cell digit .digits) ⌝ }
+{
+    set_digit(digits, cell, digit);
+    if digit == 0 {
+        return solved;
+    }
+    settled(digits, solved)
+}
+
+// The same of a board.
 pub fn put_digit(board: Board, cell: usize, digit: u8) -> Board
     ensures { λ r. ⌜ r ≡ moved board (putDigit (stateOf board) cell digit) (countsOf board) ⌝ }
 {
-    let kept = board.digits;
-    let digits = with_digit(kept, cell, digit);
+    let before = board.solved;
     let mut next = board;
-    next.digits = digits;
-    if digit == 0 {
-        return next;
-    }
-    let solved = settled(&digits, board.solved);
+    let solved = put_in(&mut next.digits, before, cell, digit);
     next.solved = solved;
     next
 }
@@ -76,48 +84,78 @@ pub fn counted(board: Board, counts: Counts) -> Board
     next
 }
 
-// A digit placed, and its mark struck from the kept note of each peer that has it. The target's own note stays.
-fn placed(board: Board, cell: usize, digit: u8) -> Board
-    ensures { λ r. ⌜ r ≡ moved board (withNotes (putDigit (stateOf board) cell digit) (strikeAll (board .notes) digit (peersOf cell))) (countsOf board) ⌝ }
-{
-    let kept = board.notes;
-    let notes = strike_all(kept, digit, cell);
-    with_notes(put_digit(board, cell, digit), notes)
-}
-
 // A mark written at a cell.
 pub fn marked(board: Board, cell: usize, digit: u8) -> Board
     ensures { λ r. ⌜ r ≡ moved board (withNotes (stateOf board) (writeAt (board .notes) cell digit)) (countsOf board) ⌝ }
 {
-    let kept = board.notes;
-    let notes = write_at(kept, cell, digit);
-    with_notes(board, notes)
+    let mut next = board;
+    write_in(&mut next.notes, cell, digit);
+    next
 }
 
 // A mark struck at a cell.
 pub fn unmarked(board: Board, cell: usize, digit: u8) -> Board
     ensures { λ r. ⌜ r ≡ moved board (withNotes (stateOf board) (strikeAt (board .notes) cell digit)) (countsOf board) ⌝ }
 {
-    let kept = board.notes;
-    let notes = strike_at(kept, cell, digit);
-    with_notes(board, notes)
+    let mut next = board;
+    strike_in(&mut next.notes, cell, digit);
+    next
+}
+
+// What a move does to the digits, in place; the status afterwards is answered.
+pub fn perform_digit(digits: &mut [u8; 81], solved: bool, m: Move) -> bool
+    ensures { λ r. ⌜ (r ≡ performOf (parts [] (now (digits .entry)) [] solved) m .solved) × (now (digits .exit) ≡ performOf (parts [] (now (digits .entry)) [] solved) m .digits) ⌝ }
+{
+    match m {
+        Move::Place { row, column, digit } => put_in(digits, solved, cell_of(row, column), digit),
+        Move::Erase { row, column } => put_in(digits, solved, cell_of(row, column), 0),
+        Move::WriteMark {
+            row: _,
+            column: _,
+            digit: _,
+        } => solved,
+        Move::StrikeMark {
+            row: _,
+            column: _,
+            digit: _,
+        } => solved,
+    }
+}
+
+// The mark struck from the kept note of each peer of a cell that has it. The target's own note stays.
+fn strike_peers(notes: &mut [u16; 81], cell: usize, digit: u8)
+    ensures { λ _. ⌜ now (notes .exit) ≡ strikeAll (now (notes .entry)) digit (peersOf cell) ⌝ }
+{
+    strike_all_in(notes, digit, peers(cell));
+}
+
+// What a move does to the kept notes, in place.
+pub fn perform_notes(notes: &mut [u16; 81], m: Move)
+    ensures { λ _. ⌜ now (notes .exit) ≡ performOf (parts [] [] (now (notes .entry)) false) m .notes ⌝ }
+{
+    match m {
+        Move::Place { row, column, digit } => strike_peers(notes, cell_of(row, column), digit),
+        Move::Erase { row: _, column: _ } => {}
+        Move::WriteMark { row, column, digit } => write_in(notes, cell_of(row, column), digit),
+        Move::StrikeMark { row, column, digit } => strike_in(notes, cell_of(row, column), digit),
+    }
 }
 
 // A move performed; the counts stay.
 pub fn perform(board: Board, m: Move) -> Board
     ensures { λ r. ⌜ r ≡ moved board (performOf (stateOf board) m) (countsOf board) ⌝ }
 {
-    match m {
-        Move::Place { row, column, digit } => placed(board, cell_of(row, column), digit),
-        Move::Erase { row, column } => put_digit(board, cell_of(row, column), 0),
-        Move::WriteMark { row, column, digit } => marked(board, cell_of(row, column), digit),
-        Move::StrikeMark { row, column, digit } => unmarked(board, cell_of(row, column), digit),
-    }
+    let before = board.solved;
+    let mut next = board;
+    let solved = perform_digit(&mut next.digits, before, m);
+    perform_notes(&mut next.notes, m);
+    next.solved = solved;
+    next
 }
 
 // The slot of a move with what it displaces: the digit before, and the peers that lose the mark.
-pub fn slot_for(board: Board, m: Move) -> Slot
-    ensures { λ r. ⌜ r ≡ slotFor (stateOf board) m ⌝ }
+pub fn slot_of<'a>(digits: &'a [u8; 81], notes: &'a [u16; 81], m: Move) -> Slot
+    ensures { λ r. ⌜ r ≡ slotFor (parts [] (now (digits .entry)) (now (notes .entry)) false) m ⌝ }
 {
     match m {
         Move::Place { row, column, digit } => {
@@ -127,8 +165,8 @@ pub fn slot_for(board: Board, m: Move) -> Slot
                 row: row,
                 column: column,
                 digit: digit,
-                before: digit_at(&board.digits, cell),
-                struck: holders(&board.notes, digit, cell),
+                before: digit_at(digits, cell),
+                struck: holders(notes, digit, cell),
             }
         }
         Move::Erase { row, column } => {
@@ -138,7 +176,7 @@ pub fn slot_for(board: Board, m: Move) -> Slot
                 row: row,
                 column: column,
                 digit: 0,
-                before: digit_at(&board.digits, cell),
+                before: digit_at(digits, cell),
                 struck: 0,
             }
         }
@@ -159,6 +197,13 @@ pub fn slot_for(board: Board, m: Move) -> Slot
             struck: 0,
         },
     }
+}
+
+// The same of a board.
+pub fn slot_for(board: Board, m: Move) -> Slot
+    ensures { λ r. ⌜ r ≡ slotFor (stateOf board) m ⌝ }
+{
+    slot_of(&board.digits, &board.notes, m)
 }
 
 // A move performed and recorded: its one slot is written behind the standing ones. A journal that ends before it stays as it is.

@@ -1,17 +1,18 @@
 -- `play::moves::unmarked` meets its contract.
 -- Assumes nothing.
+use Rattle.journal.specs.State.{withNotes}
+use Rattle.board.specs.Board.{stateOf, countsOf, boardOf, moved}
+use borrow.Author.Needs.{needs}
 use borrow.Author.Needs.{needs}
 use Rattle.play.proofs.moves.unmarked.Statement.{statement}
 use Rattle.play.proofs.moves.unmarked.Tie as tie
 
-strike-at-requires : tie.Need-strike-at-requires
-strike-at-requires c κs = search needs
-
-with-notes-requires : tie.Need-with-notes-requires
-with-notes-requires c κs = search needs
+strike-in-requires : tie.Need-strike-in-requires
+strike-in-requires c κs = search needs
 
 returns : tie.Need-returns
-returns c = rw (c .with-notes .ensures, c .before .strike-at .ensures)
+unfolding moved boardOf stateOf countsOf withNotes
+returns c = rw (c .strike-in .ensures)
 
 pub unmarked-spec : {M : Type 1} → statement M
-unmarked-spec = tie.close (tie.spec strike-at-requires with-notes-requires returns)
+unmarked-spec = tie.close (tie.spec strike-in-requires returns)

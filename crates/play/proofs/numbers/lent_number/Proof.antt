@@ -1,34 +1,17 @@
--- `play::numbers::lent_number` meets its contract.
+-- `play::numbers::lent_number` meets its contract: the parts are the board's.
 -- Assumes nothing.
-use mathlib.Core.Path.{sym, ap, _∙_}
-use mathlib.Core.Bool.{not}
-use native.Mathlib.Omega.{arith}
-use borrow.Author.Tests.{eq-eqb, ne-eqb}
-use Rattle.sudoku.proofs.Walks.{refused, no-if}
-use Rattle.board.proofs.Numbers.{last-if}
-use Rattle.play.specs.Play.{lentBy, lentNumber}
+use Rattle.board.specs.Board.{isBoard}
+use Rattle.play.specs.Play.{lentNumber, lentBy}
 use borrow.Author.Needs.{needs}
 use Rattle.play.proofs.numbers.lent_number.Statement.{statement}
 use Rattle.play.proofs.numbers.lent_number.Tie as tie
 
+number-of-lent-requires : tie.Need-number-of-lent-requires
+number-of-lent-requires c κs = search needs
+
 returns : tie.Need-returns
-unfolding lentNumber lentBy
-returns c = (sym (refused _ 1 _ (ap not (ne-eqb _ _ (c .if1 .taken)))), omega arith)
-
-is-board-requires : tie.Need-is-board-requires
-is-board-requires c κs = search needs
-
-returns-2 : tie.Need-returns-2
-unfolding lentNumber lentBy
-returns-2 c =
-    let one = ap not (eq-eqb _ _ (c .before .before .if1 .left)) in
-    (sym (no-if _ 1 _ one ∙ refused _ 2 _ (ap not (sym (c .before .is-board .ensures)) ∙ c .if2 .taken)), omega arith)
-
-returns-3 : tie.Need-returns-3
-unfolding lentNumber lentBy
-returns-3 c =
-    let one = ap not (eq-eqb _ _ (c .before .before .if1 .left)) in
-    (sym (no-if _ 1 _ one ∙ last-if _ 2 (ap not (sym (c .before .is-board .ensures)) ∙ c .if2 .left)), omega arith)
+unfolding lentNumber lentBy isBoard
+returns c = c .number-of-lent .ensures
 
 pub lent-number-spec : {M : Type 1} → statement M
-lent-number-spec = tie.close (tie.spec returns is-board-requires returns-2 returns-3)
+lent-number-spec = tie.close (tie.spec number-of-lent-requires returns)

@@ -5,8 +5,7 @@ use mathlib.Core.Path.{sym, ap, _∙_}
 use mathlib.Core.Bool.{Bool, not}
 use Rattle.sudoku.proofs.Walks.{refused, no-if}
 use Rattle.note.specs.Note.{contains}
-use Rattle.journal.specs.State.{noteAt, acceptsMarks}
-use Rattle.board.specs.Board.{stateOf}
+use Rattle.journal.specs.State.{acceptsMarks, noteAt}
 use Rattle.board.proofs.Numbers.{last-if}
 use borrow.Author.Needs.{needs}
 use Rattle.play.proofs.numbers.mark_number.Statement.{statement}
@@ -16,14 +15,14 @@ holds-digit-requires : tie.Need-holds-digit-requires
 holds-digit-requires c κs = search needs
 
 returns : tie.Need-returns
-unfolding acceptsMarks noteAt stateOf
+unfolding acceptsMarks noteAt
 returns c = sym (refused _ 7 _ (ap (λ (t : Bool). not (not t)) (sym (c .before .holds-digit .ensures) ∙ c .if1 .taken)))
 
 in-range-requires : tie.Need-in-range-requires
 in-range-requires c κs = search needs
 
 returns-2 : tie.Need-returns-2
-unfolding acceptsMarks noteAt stateOf
+unfolding acceptsMarks noteAt
 returns-2 c =
     let seven = ap (λ (t : Bool). not (not t)) (sym (c .before .before .before .holds-digit .ensures) ∙ c .before .before .if1 .left) in
     sym (no-if _ 7 _ seven ∙ refused _ 8 _ (ap not (sym (c .before .in-range .ensures)) ∙ c .if2 .taken))
@@ -35,19 +34,19 @@ contains-requires : tie.Need-contains-requires
 contains-requires c κs = search needs
 
 returns-3 : tie.Need-returns-3
-unfolding acceptsMarks noteAt stateOf
+unfolding acceptsMarks noteAt
 returns-3 c =
-    let seven = ap (λ (t : Bool). not (not t)) (sym (c .before .before .before .before .before .before .before .before .holds-digit .ensures) ∙ c .before .before .before .before .before .before .before .if1 .left) in
-    let eight = ap not (sym (c .before .before .before .before .before .before .in-range .ensures)) ∙ c .before .before .before .before .before .if2 .left in
-    let stands = sym (c .before .contains .ensures ∙ ap (λ (n : ℕ). contains n (c .before .before .before .before .before .before .before .before .before .before .before .args .mark)) (c .before .before .note-at .ensures)) in
+    let seven = ap (λ (t : Bool). not (not t)) (sym (c .before .before .before .before .before .before .holds-digit .ensures) ∙ c .before .before .before .before .before .if1 .left) in
+    let eight = ap not (sym (c .before .before .before .before .in-range .ensures)) ∙ c .before .before .before .if2 .left in
+    let stands = sym (c .before .contains .ensures ∙ ap (λ (n : ℕ). contains n (c .before .before .before .before .before .before .before .args .mark)) (c .before .before .note-at .ensures)) in
     sym (no-if _ 7 _ seven ∙ no-if _ 8 _ eight ∙ refused _ 10 _ (stands ∙ c .if3 .taken))
 
 returns-4 : tie.Need-returns-4
-unfolding acceptsMarks noteAt stateOf
+unfolding acceptsMarks noteAt
 returns-4 c =
-    let seven = ap (λ (t : Bool). not (not t)) (sym (c .before .before .before .before .before .before .before .before .holds-digit .ensures) ∙ c .before .before .before .before .before .before .before .if1 .left) in
-    let eight = ap not (sym (c .before .before .before .before .before .before .in-range .ensures)) ∙ c .before .before .before .before .before .if2 .left in
-    let stands = sym (c .before .contains .ensures ∙ ap (λ (n : ℕ). contains n (c .before .before .before .before .before .before .before .before .before .before .before .args .mark)) (c .before .before .note-at .ensures)) in
+    let seven = ap (λ (t : Bool). not (not t)) (sym (c .before .before .before .before .before .before .holds-digit .ensures) ∙ c .before .before .before .before .before .if1 .left) in
+    let eight = ap not (sym (c .before .before .before .before .in-range .ensures)) ∙ c .before .before .before .if2 .left in
+    let stands = sym (c .before .contains .ensures ∙ ap (λ (n : ℕ). contains n (c .before .before .before .before .before .before .before .args .mark)) (c .before .before .note-at .ensures)) in
     sym (no-if _ 7 _ seven ∙ no-if _ 8 _ eight ∙ last-if _ 10 (stands ∙ c .if3 .left))
 
 pub mark-number-spec : {M : Type 1} → statement M

@@ -1,0 +1,95 @@
+-- `board::value::is_value` meets its contract: each of its returns is the definition where the tests before it have gone as they did.
+-- Assumes nothing.
+use Prim.Native.Nat.{_≤_, _<_}
+use mathlib.Core.Path.{_≡_, sym, _∙_}
+use mathlib.Core.Bool.{true, false}
+use borrow.Author.Needs.{needs}
+use borrow.Author.Tests.{le-leb, lt-leb, not-true, not-false}
+use Rattle.sudoku.specs.Tests.{both, every}
+use Rattle.board.specs.declared.Board.{Board}
+use Rattle.board.specs.Board.{whole, isBoard, digitValue, noteValue, solutionValue}
+use Rattle.board.proofs.value.is_value.Statement.{statement}
+use Rattle.board.proofs.value.is_value.Tie as tie
+
+module _ (b : Board) where
+  too-many-made : 1024 < b .made → isBoard b ≡ false
+  unfolding isBoard both
+  too-many-made h = rw (lt-leb _ _ h)
+
+  module _ (m : b .made ≤ 1024) where
+    too-many-standing : b .made < b .standing → isBoard b ≡ false
+    unfolding isBoard both
+    too-many-standing h = rw (le-leb _ _ m, lt-leb _ _ h)
+
+    module _ (s : b .standing ≤ b .made) where
+      too-many-checks : 256 < b .checks → isBoard b ≡ false
+      unfolding isBoard both
+      too-many-checks h = rw (le-leb _ _ m, le-leb _ _ s, lt-leb _ _ h)
+
+      module _ (k : b .checks ≤ 256) where
+        no-digits : every (digitValue (b .digits) (b .given)) 81 1 ≡ false → isBoard b ≡ false
+        unfolding isBoard both
+        no-digits h = rw (le-leb _ _ m, le-leb _ _ s, le-leb _ _ k, h)
+
+        module _ (d : every (digitValue (b .digits) (b .given)) 81 1 ≡ true) where
+          no-notes : every (noteValue (b .notes)) 81 1 ≡ false → isBoard b ≡ false
+          unfolding isBoard both
+          no-notes h = rw (le-leb _ _ m, le-leb _ _ s, le-leb _ _ k, d, h)
+
+          by-solution : every (noteValue (b .notes)) 81 1 ≡ true → isBoard b ≡ every (solutionValue (b .solution)) 81 1
+          unfolding isBoard both
+          by-solution h = rw (le-leb _ _ m, le-leb _ _ s, le-leb _ _ k, d, h)
+
+returns : tie.Need-returns
+returns c =
+    let a = c .before .args in
+    sym (too-many-made (whole (a .digits .now) (a .given .now) (a .notes .now) (a .solution .now) false (a .made) (a .standing) (a .checks)) (c .if1 .taken))
+
+returns-2 : tie.Need-returns-2
+returns-2 c =
+    let a = c .before .before .args in
+    sym (too-many-standing (whole (a .digits .now) (a .given .now) (a .notes .now) (a .solution .now) false (a .made) (a .standing) (a .checks)) (c .before .if1 .left) (c .if2 .taken))
+
+returns-3 : tie.Need-returns-3
+returns-3 c =
+    let a = c .before .before .before .args in
+    sym (too-many-checks (whole (a .digits .now) (a .given .now) (a .notes .now) (a .solution .now) false (a .made) (a .standing) (a .checks)) (c .before .before .if1 .left) (c .before .if2 .left) (c .if3 .taken))
+
+digit-values-requires : tie.Need-digit-values-requires
+digit-values-requires c κs = search needs
+
+returns-4 : tie.Need-returns-4
+returns-4 c =
+    let a = c .before .before .before .before .before .args in
+    sym (no-digits (whole (a .digits .now) (a .given .now) (a .notes .now) (a .solution .now) false (a .made) (a .standing) (a .checks)) (c .before .before .before .before .if1 .left) (c .before .before .before .if2 .left) (c .before .before .if3 .left) (sym (c .before .digit-values .ensures) ∙ not-true _ (c .if4 .taken)))
+
+note-values-requires : tie.Need-note-values-requires
+note-values-requires c κs = search needs
+
+returns-5 : tie.Need-returns-5
+returns-5 c =
+    let a = c .before .before .before .before .before .before .before .args in
+    sym (no-notes (whole (a .digits .now) (a .given .now) (a .notes .now) (a .solution .now) false (a .made) (a .standing) (a .checks)) (c .before .before .before .before .before .before .if1 .left) (c .before .before .before .before .before .if2 .left) (c .before .before .before .before .if3 .left) (sym (c .before .before .before .digit-values .ensures) ∙ not-false _ (c .before .before .if4 .left)) (sym (c .before .note-values .ensures) ∙ not-true _ (c .if5 .taken)))
+
+solution-values-requires : tie.Need-solution-values-requires
+solution-values-requires c κs = search needs
+
+returns-6 : tie.Need-returns-6
+returns-6 c =
+    let a = c .before .before .before .before .before .before .before .before .args in
+    c .solution-values .ensures
+    ∙ sym (by-solution (whole (a .digits .now) (a .given .now) (a .notes .now) (a .solution .now) false (a .made) (a .standing) (a .checks)) (c .before .before .before .before .before .before .before .if1 .left) (c .before .before .before .before .before .before .if2 .left) (c .before .before .before .before .before .if3 .left) (sym (c .before .before .before .before .digit-values .ensures) ∙ not-false _ (c .before .before .before .if4 .left)) (sym (c .before .before .note-values .ensures) ∙ not-false _ (c .before .if5 .left)))
+
+pub is-value-spec : {M : Type 1} → statement M
+is-value-spec =
+    tie.close
+    (tie.spec
+    returns
+    returns-2
+    returns-3
+    digit-values-requires
+    returns-4
+    note-values-requires
+    returns-5
+    solution-values-requires
+    returns-6)
