@@ -2,16 +2,25 @@
 use crate::HostAnswer;
 use crate::HostBoard;
 use crate::HostChecked;
-use crate::answered;
 use crate::board_in;
 use crate::flag_of;
 use crate::flags_in;
 use crate::judged;
 use crate::made_in;
+use back::give_back;
+use back::put_again;
+use back::put_back;
+use back::refusal_of_redo;
+use back::refusal_of_undo;
+use back::take_again;
 use journal::Counts;
 use journal::Move;
+use journal::slots::move_of;
+use journal::slots::slot_at;
 use journal::slots::write_slot;
 use journal::steps::after_record;
+use journal::steps::after_retake;
+use journal::steps::after_take_back;
 use play::moves::perform_digit;
 use play::moves::perform_notes;
 use play::moves::slot_of;
@@ -70,14 +79,82 @@ pub fn play(board: HostBoard, journal: &mut [u8], m: Move) -> HostAnswer
 pub fn undo(board: HostBoard, journal: &[u8]) -> HostAnswer
     ensures { λ r. ⌜ r ≡ answeredOf board (undoOf (boardIn board) (now (journal .entry))) ⌝ }
 {
-    answered(board, back::undo(board_in(board), journal))
+    let mut next = board;
+    let solved = board.solved == 1;
+    let given = flags_in(&next.given);
+    let made = made_in(&next.given, board.solved, board.made);
+    let refused = refusal_of_undo(
+        &next.digits,
+        &given,
+        &next.notes,
+        &next.solution,
+        solved,
+        made,
+        board.standing,
+        board.checks,
+        journal,
+    );
+    if refused.number != 0 {
+        return HostAnswer {
+            refusal: refused,
+            board: board,
+        };
+    }
+    let slot = slot_at(journal, board.standing);
+    let counts = after_take_back(Counts {
+        made: made,
+        standing: board.standing,
+    });
+    let status = put_back(&mut next.digits, solved, slot);
+    give_back(&mut next.notes, move_of(slot), slot.struck);
+    next.solved = flag_of(status);
+    next.made = counts.made;
+    next.standing = counts.standing;
+    HostAnswer {
+        refusal: accepted(),
+        board: next,
+    }
 }
 
 // Makes the next undone move again.
 pub fn redo(board: HostBoard, journal: &[u8]) -> HostAnswer
     ensures { λ r. ⌜ r ≡ answeredOf board (redoOf (boardIn board) (now (journal .entry))) ⌝ }
 {
-    answered(board, back::redo(board_in(board), journal))
+    let mut next = board;
+    let solved = board.solved == 1;
+    let given = flags_in(&next.given);
+    let made = made_in(&next.given, board.solved, board.made);
+    let refused = refusal_of_redo(
+        &next.digits,
+        &given,
+        &next.notes,
+        &next.solution,
+        solved,
+        made,
+        board.standing,
+        board.checks,
+        journal,
+    );
+    if refused.number != 0 {
+        return HostAnswer {
+            refusal: refused,
+            board: board,
+        };
+    }
+    let slot = slot_at(journal, board.standing + 1);
+    let counts = after_retake(Counts {
+        made: made,
+        standing: board.standing,
+    });
+    let status = put_again(&mut next.digits, solved, slot);
+    take_again(&mut next.notes, move_of(slot), slot.struck);
+    next.solved = flag_of(status);
+    next.made = counts.made;
+    next.standing = counts.standing;
+    HostAnswer {
+        refusal: accepted(),
+        board: next,
+    }
 }
 
 // Compares a player's digit with the solution's, and stores the check.

@@ -1,33 +1,22 @@
 -- `back::digit_again` meets its contract.
 -- Assumes nothing.
+use mathlib.Core.Path.{ap}
+use Rattle.sudoku.specs.Grid.{cellOf}
+use Rattle.journal.specs.State.{State}
+use Rattle.journal.specs.Slots.{digitChange}
 use Rattle.board.specs.Board.{stateOf, countsOf, boardOf, moved}
-use Rattle.back.specs.Halves.{digitAgain}
+use Rattle.back.proofs.Parts.{digit-again-parts}
 use borrow.Author.Needs.{needs}
 use Rattle.back.proofs.digit_again.Statement.{statement}
 use Rattle.back.proofs.digit_again.Tie as tie
 
-digit-change-requires : tie.Need-digit-change-requires
-digit-change-requires c κs = search needs
-
-enum-known-change : tie.Need-enum-known-change
-enum-known-change c = search needs
-
-enum-told : tie.Need-enum-told
-enum-told c = search needs
+put-again-requires : tie.Need-put-again-requires
+put-again-requires c κs = search needs
 
 returns : tie.Need-returns
-unfolding digitAgain moved boardOf stateOf countsOf
-returns c = rw (← c .before .before .digit-change .ensures, c .enum-told .given .1)
-
-cell-of-requires : tie.Need-cell-of-requires
-cell-of-requires c κs = search needs
-
-put-digit-requires : tie.Need-put-digit-requires
-put-digit-requires c κs = search needs
-
-returns-2 : tie.Need-returns-2
-unfolding digitAgain moved boardOf stateOf countsOf
-returns-2 c = rw (← c .before .before .before .before .before .digit-change .ensures, c .before .before .before .change .given .1, c .put-digit .ensures, c .before .cell-of .ensures .0)
+unfolding moved boardOf stateOf countsOf
+returns c = let a = c .before .before .args in
+    rw (c .put-again .ensures .0, c .put-again .ensures .1) (ap (λ (s : State). moved (a .board) s (countsOf (a .board))) (digit-again-parts (stateOf (a .board)) (cellOf (a .slot .row) (a .slot .column)) (digitChange (a .slot))))
 
 pub digit-again-spec : {M : Type 1} → statement M
-digit-again-spec = tie.close (tie.spec digit-change-requires enum-known-change enum-told returns cell-of-requires put-digit-requires returns-2)
+digit-again-spec = tie.close (tie.spec put-again-requires returns)

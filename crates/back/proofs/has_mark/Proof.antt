@@ -1,7 +1,5 @@
 -- `back::has_mark` meets its contract.
 -- Assumes nothing.
-use Rattle.journal.specs.State.{noteAt}
-use Rattle.board.specs.Board.{stateOf}
 use borrow.Author.Needs.{needs}
 use Rattle.back.proofs.has_mark.Statement.{statement}
 use Rattle.back.proofs.has_mark.Tie as tie
@@ -13,7 +11,6 @@ contains-requires : tie.Need-contains-requires
 contains-requires c κs = search needs
 
 returns : tie.Need-returns
-unfolding noteAt stateOf
 returns c = rw (c .contains .ensures, c .before .note-at .ensures)
 
 pub has-mark-spec : {M : Type 1} → statement M

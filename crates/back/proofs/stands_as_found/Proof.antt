@@ -1,7 +1,6 @@
 -- `back::stands_as_found` meets its contract, move by move.
 -- Assumes nothing.
-use Rattle.journal.specs.State.{digitAt, standsAsFound}
-use Rattle.board.specs.Board.{stateOf}
+use Rattle.journal.specs.State.{digitAt, noteAt, standsAsFound}
 use borrow.Author.Needs.{needs}
 use Rattle.back.proofs.stands_as_found.Statement.{statement}
 use Rattle.back.proofs.stands_as_found.Tie as tie
@@ -43,19 +42,19 @@ has-mark-requires-2 : tie.Need-has-mark-requires-2
 has-mark-requires-2 c κs = search needs
 
 returns : tie.Need-returns
-unfolding standsAsFound
+unfolding standsAsFound digitAt noteAt
 returns c = rw (c .before .before .before .m .given .1, c .place-found .ensures, c .before .cell-of .ensures .0)
 
 returns-2 : tie.Need-returns-2
-unfolding standsAsFound digitAt stateOf
-returns-2 c = rw (c .before .before .before .before .before .m2 .given .1, c .digit-at .ensures, c .before .cell-of2 .ensures .0)
+unfolding standsAsFound digitAt noteAt
+returns-2 c = rw (c .before .before .before .m2 .given .1, c .digit-at .ensures, c .before .cell-of2 .ensures .0)
 
 returns-3 : tie.Need-returns-3
-unfolding standsAsFound
+unfolding standsAsFound digitAt noteAt
 returns-3 c = rw (c .before .before .before .m3 .given .1, c .has-mark .ensures, c .before .cell-of3 .ensures .0)
 
 returns-4 : tie.Need-returns-4
-unfolding standsAsFound
+unfolding standsAsFound digitAt noteAt
 returns-4 c = rw (c .before .before .before .m4 .given .1, c .has-mark2 .ensures, c .before .cell-of4 .ensures .0)
 
 pub stands-as-found-spec : {M : Type 1} → statement M

@@ -1,0 +1,19 @@
+-- `back::strike_again` meets its contract.
+-- Assumes nothing.
+use mathlib.Core.Path.{sym}
+use Rattle.back.proofs.Parts.{strike-none}
+use borrow.Author.Needs.{needs}
+use Rattle.back.proofs.strike_again.Statement.{statement}
+use Rattle.back.proofs.strike_again.Tie as tie
+
+returns : tie.Need-returns
+returns c = rw (c .if1 .taken) (sym (strike-none _ _ _))
+
+strike-masked-requires : tie.Need-strike-masked-requires
+strike-masked-requires c κs = search needs
+
+returns-2 : tie.Need-returns-2
+returns-2 c = c .strike-masked .ensures
+
+pub strike-again-spec : {M : Type 1} → statement M
+strike-again-spec = tie.close (tie.spec returns strike-masked-requires returns-2)
