@@ -1,20 +1,341 @@
 // Replays stored answers of the Rust original: each block of standard input is a session or a reopening with what the original answered. Every answer, the board, the record,
 // its reopening, the questions and some readings must be those that are stored. docs/VECTORS.md has the layout.
-mod session;
-mod stored;
-
 use board::Board;
+use journal::CHECK_BYTES;
 use journal::CHECK_MEMORY;
 use journal::JOURNAL_BYTES;
+use journal::MAX_CHECKS;
+use journal::MAX_MOVES;
+use journal::SLOT_BYTES;
 use libc::STDIN_FILENO;
 use libc::STDOUT_FILENO;
+use moves::Reading;
+use puzzle::Refusal;
 use puzzle::byte_at;
-use session::session;
-use stored::differs;
-use stored::number_at;
-use stored::part;
-use stored::plus;
-use stored::refusal_differs;
+use puzzle::digit_at;
+use puzzle::index_of;
+use sudoku::cell_of;
+use sudoku::wide;
+ghost use Prim.Native.Nat.{_<_, _≤_};
+
+// No sum of sizes in a block comes near this.
+const LARGE: usize = 1000000;
+
+// The sum, for sizes and counts: it stays where one is larger than anything a block can hold.
+fn plus(a: usize, b: usize) -> usize {
+    if a > LARGE {
+        return a;
+    }
+    if b > LARGE {
+        return a;
+    }
+    a + b
+}
+
+// Two bytes, low first.
+fn number_at(bytes: &[u8], i: usize) -> usize
+    ensures { λ r. ⌜ r < 65536 ⌝ }
+{
+    wide(byte_at(bytes, i)) + 256 * wide(byte_at(bytes, plus(i, 1)))
+}
+
+// `length` bytes from `start` on, and an empty part where they are not there.
+fn part<'a>(bytes: &'a [u8], start: usize, length: usize) -> &'a [u8] {
+    if start > bytes.len() {
+        return &bytes[0..0];
+    }
+    if length > bytes.len() - start {
+        return &bytes[0..0];
+    }
+    let end = start + length;
+    &bytes[start..end]
+}
+
+// 1 where two things differ.
+fn differs(same: bool) -> usize {
+    if same {
+        return 0;
+    }
+    1
+}
+
+// How many bytes differ; one more where the lengths do.
+fn differing(a: &[u8], b: &[u8]) -> usize {
+    let mut found = differs(a.len() == b.len());
+    let mut i: usize = 0;
+    while i < a.len() {
+        found = plus(found, differs(a[i] == byte_at(b, i)));
+        i += 1;
+    }
+    found
+}
+
+// Whether a refusal is another than the one stored: number, place (two bytes, low first), inner.
+fn refusal_differs(r: Refusal, block: &[u8], at: usize) -> usize {
+    let number = differs(r.number == byte_at(block, at));
+    let place = differs(r.place == number_at(block, plus(at, 1)));
+    let inner = differs(r.inner == byte_at(block, plus(at, 3)));
+    plus(plus(number, place), inner)
+}
+
+// How many notes differ from those stored, two bytes each.
+fn notes_differ(notes: &[u16; 81], block: &[u8], at: usize) -> usize {
+    let mut found: usize = 0;
+    let mut i: usize = 0;
+    while i < 81 {
+        found = plus(
+            found,
+            differs(note_value(notes[i]) == number_at(block, plus(at, 2 * i))),
+        );
+        i += 1;
+    }
+    found
+}
+
+fn note_value(note: u16) -> usize {
+    note as usize
+}
+
+// What is known of a session as its block is read: where reading stands, and what was found.
+struct Walk {
+    board: Board,
+    at: usize,
+    calls: usize,
+    readings: usize,
+    differences: usize,
+}
+
+fn found(walk: Walk, differences: usize, bytes: usize) -> Walk {
+    let mut next = walk;
+    next.at = plus(walk.at, bytes);
+    next.differences = plus(walk.differences, differences);
+    next
+}
+
+// Tag, solution, givens and the answer to opening.
+fn opening(block: &[u8], journal: &mut [u8], checks: &mut [u8]) -> Walk {
+    let givens = 3 * wide(byte_at(block, 82));
+    let at = plus(83, givens);
+    let answer = board::open::open(part(block, 83, givens), part(block, 1, 81), journal, checks);
+    let opened = answer.board;
+    Walk {
+        board: opened,
+        at: plus(at, 4),
+        calls: 0,
+        readings: 0,
+        differences: refusal_differs(answer.refusal, block, at),
+    }
+}
+
+// The number of calls, the calls, and their answers.
+fn calls(block: &[u8], walk: Walk, journal: &mut [u8], checks: &mut [u8]) -> Walk {
+    let count = number_at(block, walk.at);
+    let start = plus(walk.at, 2);
+    let length = 4 * count;
+    let mut answers = [0u8; 16384];
+    let left = calls::run::play(
+        walk.board,
+        journal,
+        checks,
+        part(block, start, length),
+        &mut answers,
+    );
+    let wrong = differing(
+        part(block, plus(start, length), length),
+        part(&answers, 0, length),
+    );
+    let mut next = found(walk, wrong, plus(2, 2 * length));
+    next.board = left;
+    next.calls = count;
+    next
+}
+
+// 1 where an answer is another than the bit stored for it.
+fn bit_differs(flags: u8, bit: u8, holds: bool) -> usize {
+    differs((flags & bit != 0) == holds)
+}
+
+// solved, full, consistent, can undo, can redo: one bit each.
+fn questions_differ(board: Board, flags: u8) -> usize {
+    let solved = bit_differs(flags, 1, questions::status(board).holds);
+    let full = bit_differs(flags, 2, questions::is_full(board).holds);
+    let consistent = bit_differs(flags, 4, questions::is_consistent(board).holds);
+    let undo = bit_differs(flags, 8, questions::can_undo(board).holds);
+    let redo = bit_differs(flags, 16, questions::can_redo(board).holds);
+    plus(plus(plus(solved, full), plus(consistent, undo)), redo)
+}
+
+// Digits, kept notes, flags, and the three counts.
+fn state(block: &[u8], walk: Walk) -> Walk {
+    let board = walk.board;
+    let at = walk.at;
+    let digits = differing(&board.digits, part(block, at, 81));
+    let notes = notes_differ(&board.notes, block, plus(at, 81));
+    let flags = questions_differ(board, byte_at(block, plus(at, 243)));
+    let made = differs(board.made == number_at(block, plus(at, 244)));
+    let standing = differs(board.standing == number_at(block, plus(at, 246)));
+    let checks = differs(board.checks == number_at(block, plus(at, 248)));
+    let counts = plus(plus(made, standing), checks);
+    found(walk, plus(plus(digits, notes), plus(flags, counts)), 250)
+}
+
+// The question for one cell: bits for conflicting, given and whether its note is shown; digit and kept note are compared with the board's.
+fn cell_differs(board: Board, block: &[u8], at: usize, row: u8, column: u8) -> usize {
+    let answer = questions::cell(board, row, column);
+    let index = index_of(cell_of(row, column));
+    let flags = byte_at(block, plus(at, index));
+    let conflicts = bit_differs(flags, 1, answer.conflicting);
+    let given = bit_differs(flags, 2, answer.given);
+    let shown = bit_differs(flags, 4, answer.shown);
+    let digit = differs(answer.digit == digit_at(&board.digits, cell_of(row, column)));
+    plus(plus(conflicts, given), plus(shown, digit))
+}
+
+fn row_differs(board: Board, block: &[u8], at: usize, row: u8) -> usize {
+    let mut wrong: usize = 0;
+    let mut column: u8 = 1;
+    while column <= 9 {
+        wrong = plus(wrong, cell_differs(board, block, at, row, column));
+        column += 1;
+    }
+    wrong
+}
+
+// The question for each cell, one byte each.
+fn cells(block: &[u8], walk: Walk) -> Walk {
+    let mut wrong: usize = 0;
+    let mut row: u8 = 1;
+    while row <= 9 {
+        wrong = plus(wrong, row_differs(walk.board, block, walk.at, row));
+        row += 1;
+    }
+    found(walk, wrong, 81)
+}
+
+// Digits left for each key, one byte each.
+fn keys(block: &[u8], walk: Walk) -> Walk {
+    let mut wrong: usize = 0;
+    let mut key: u8 = 1;
+    while key <= 9 {
+        let answer = questions::digits_left(walk.board, key);
+        let stored = byte_at(block, plus(walk.at, wide(key) - 1));
+        wrong = plus(wrong, differs(answer.left == stored));
+        key += 1;
+    }
+    found(walk, wrong, 9)
+}
+
+// The first `length` bytes of two memories.
+fn start_differs(a: &[u8], b: &[u8], length: usize) -> usize {
+    differing(part(a, 0, length), part(b, 0, length))
+}
+
+fn least(a: usize, b: usize) -> usize
+    ensures { λ r. ⌜ r ≤ b ⌝ }
+{
+    if a < b {
+        return a;
+    }
+    b
+}
+
+// Whether a reopened board is the one that was played: its arrays, status and counts.
+fn board_differs(a: Board, b: Board) -> usize {
+    let digits = differing(&a.digits, &b.digits);
+    let solution = differing(&a.solution, &b.solution);
+    let solved = differs(a.solved == b.solved);
+    let made = differs(a.made == b.made);
+    let standing = differs(a.standing == b.standing);
+    let checks = differs(a.checks == b.checks);
+    plus(
+        plus(plus(digits, solution), plus(solved, made)),
+        plus(standing, checks),
+    )
+}
+
+// The record as it stands in the block, reopened: the same board, the same slots and the same checks.
+fn reopened(record: &[u8], walk: Walk, journal: &[u8], checks: &[u8]) -> usize {
+    let board = walk.board;
+    let mut journal2 = [0u8; JOURNAL_BYTES];
+    let mut checks2 = [0u8; CHECK_MEMORY];
+    let answer = reopen::reopen(record, &board.solution, &mut journal2, &mut checks2);
+    let refused = differs(answer.refusal.number == 0);
+    let wrong = board_differs(board, answer.board);
+    let moved = start_differs(
+        journal,
+        &journal2,
+        SLOT_BYTES * least(board.made, MAX_MOVES),
+    );
+    let asked = start_differs(
+        checks,
+        &checks2,
+        CHECK_BYTES * least(board.checks, MAX_CHECKS),
+    );
+    plus(plus(refused, wrong), plus(moved, asked))
+}
+
+// The record's length and the record: written by the board, and reopened.
+fn record(block: &[u8], walk: Walk, journal: &[u8], checks: &[u8]) -> Walk {
+    let length = number_at(block, walk.at);
+    let stored = part(block, plus(walk.at, 2), length);
+    let mut output = [0u8; 5955];
+    let written = record::write::write(walk.board, journal, checks, &mut output);
+    let refused = differs(written.refusal.number == 0);
+    let wrong = differing(stored, part(&output, 0, written.length));
+    let back = reopened(stored, walk, journal, checks);
+    found(walk, plus(plus(refused, wrong), back), plus(2, length))
+}
+
+// A reading: k, kind, row, column, digit, undone, the digits and the notes.
+fn reading_differs(reading: Reading, block: &[u8], at: usize) -> usize {
+    let kind = differs(reading.kind == byte_at(block, plus(at, 2)));
+    let row = differs(reading.row == byte_at(block, plus(at, 3)));
+    let column = differs(reading.column == byte_at(block, plus(at, 4)));
+    let digit = differs(reading.digit == byte_at(block, plus(at, 5)));
+    let undone = bit_differs(byte_at(block, plus(at, 6)), 1, reading.undone);
+    let digits = differing(&reading.digits, part(block, plus(at, 7), 81));
+    let notes = notes_differ(&reading.notes, block, plus(at, 88));
+    plus(
+        plus(plus(kind, row), plus(column, digit)),
+        plus(undone, plus(digits, notes)),
+    )
+}
+
+fn one_reading(block: &[u8], walk: Walk, journal: &[u8]) -> Walk {
+    let answer = moves::read::reading(walk.board, journal, number_at(block, walk.at));
+    let wrong = reading_differs(answer, block, walk.at);
+    let mut next = found(walk, wrong, 250);
+    next.readings = plus(walk.readings, 1);
+    next
+}
+
+// The number of readings, and the readings.
+fn readings(block: &[u8], walk: Walk, journal: &[u8]) -> Walk {
+    let count = byte_at(block, walk.at);
+    let mut next = found(walk, 0, 1);
+    let mut i: u8 = 0;
+    while i < count {
+        let read = one_reading(block, next, journal);
+        next = read;
+        i += 1;
+    }
+    next
+}
+
+// A whole session. A block that is longer or shorter than what it stores differs too.
+fn session(block: &[u8]) -> Walk {
+    let mut journal = [0u8; JOURNAL_BYTES];
+    let mut checks = [0u8; CHECK_MEMORY];
+    let opened = opening(block, &mut journal, &mut checks);
+    if digit_at(&opened.board.solution, 1) == 0 {
+        return found(opened, differs(opened.at == block.len()), 0); // refused, and nothing more is stored
+    }
+    let played = calls(block, opened, &mut journal, &mut checks);
+    let seen = keys(block, cells(block, state(block, played)));
+    let kept = record(block, seen, &journal, &checks);
+    let read = readings(block, kept, &journal);
+    found(read, differs(read.at == block.len()), 0)
+}
 
 // What was replayed, and how much of it was otherwise than stored.
 struct Tally {

@@ -1,10 +1,10 @@
--- `vectors::session::cells` is safe and ends.
+-- `vectors::cells` is safe and ends.
 -- Assumes nothing.
 use Prim.Native.Nat.{_≤_, _-_}
 use native.Mathlib.Omega.{arith}
 use borrow.Author.Needs.{needs}
-use Rattle.vectors.proofs.session.cells.Statement.{statement}
-use Rattle.vectors.proofs.session.cells.Tie as tie
+use Rattle.vectors.proofs.cells.Statement.{statement}
+use Rattle.vectors.proofs.cells.Tie as tie
 
 abbrev Inv-loop : tie.InvT-loop
 Inv-loop block walk wrong₀ row₀ wrong row = row ≤ 10

@@ -1,11 +1,11 @@
--- `vectors::stored::differing` is safe and ends.
+-- `vectors::differing` is safe and ends.
 -- Assumes nothing.
 use Prim.Native.Nat.{_≤_, _-_}
 use native.Mathlib.Omega.{arith}
 use lib.ListN.{length}
 use borrow.Author.Needs.{needs}
-use Rattle.vectors.proofs.stored.differing.Statement.{statement}
-use Rattle.vectors.proofs.stored.differing.Tie as tie
+use Rattle.vectors.proofs.differing.Statement.{statement}
+use Rattle.vectors.proofs.differing.Tie as tie
 
 abbrev Inv-loop : tie.InvT-loop
 Inv-loop a b found₀ i₀ found i = i ≤ length a

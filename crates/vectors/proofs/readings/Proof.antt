@@ -1,10 +1,10 @@
--- `vectors::session::readings` is safe and ends.
+-- `vectors::readings` is safe and ends.
 -- Assumes nothing.
 use Prim.Native.Nat.{_≤_, _-_}
 use native.Mathlib.Omega.{arith}
 use borrow.Author.Needs.{needs}
-use Rattle.vectors.proofs.session.readings.Statement.{statement}
-use Rattle.vectors.proofs.session.readings.Tie as tie
+use Rattle.vectors.proofs.readings.Statement.{statement}
+use Rattle.vectors.proofs.readings.Tie as tie
 
 abbrev Inv-loop : tie.InvT-loop
 Inv-loop block journal count next₀ i₀ next i = Unit

@@ -1,10 +1,10 @@
--- `vectors::session::keys` is safe and ends.
+-- `vectors::keys` is safe and ends.
 -- Assumes nothing.
 use Prim.Native.Nat.{_≤_, _-_}
 use native.Mathlib.Omega.{arith}
 use borrow.Author.Needs.{needs}
-use Rattle.vectors.proofs.session.keys.Statement.{statement}
-use Rattle.vectors.proofs.session.keys.Tie as tie
+use Rattle.vectors.proofs.keys.Statement.{statement}
+use Rattle.vectors.proofs.keys.Tie as tie
 
 abbrev Inv-loop : tie.InvT-loop
 Inv-loop block walk wrong₀ key₀ wrong key = (1 ≤ key) × (key ≤ 10)

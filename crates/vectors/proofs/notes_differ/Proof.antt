@@ -1,10 +1,10 @@
--- `vectors::stored::notes_differ` is safe and ends.
+-- `vectors::notes_differ` is safe and ends.
 -- Assumes nothing.
 use Prim.Native.Nat.{_≤_, _-_}
 use native.Mathlib.Omega.{arith}
 use borrow.Author.Needs.{needs}
-use Rattle.vectors.proofs.stored.notes_differ.Statement.{statement}
-use Rattle.vectors.proofs.stored.notes_differ.Tie as tie
+use Rattle.vectors.proofs.notes_differ.Statement.{statement}
+use Rattle.vectors.proofs.notes_differ.Tie as tie
 
 abbrev Inv-loop : tie.InvT-loop
 Inv-loop notes block at found₀ i₀ found i = i ≤ 81

@@ -1,10 +1,10 @@
--- `vectors::session::row_differs` is safe and ends.
+-- `vectors::row_differs` is safe and ends.
 -- Assumes nothing.
 use Prim.Native.Nat.{_≤_, _-_}
 use native.Mathlib.Omega.{arith}
 use borrow.Author.Needs.{needs}
-use Rattle.vectors.proofs.session.row_differs.Statement.{statement}
-use Rattle.vectors.proofs.session.row_differs.Tie as tie
+use Rattle.vectors.proofs.row_differs.Statement.{statement}
+use Rattle.vectors.proofs.row_differs.Tie as tie
 
 abbrev Inv-loop : tie.InvT-loop
 Inv-loop board block at row wrong₀ column₀ wrong column = column ≤ 10
