@@ -1,0 +1,161 @@
+// A puzzle and its solution, or a record, from files. The board that is being played stays until another one is open.
+use crate::Loaded;
+use crate::disk::is_whole;
+use crate::disk::read;
+use crate::disk::read_cells;
+use board::Answer;
+use board::open::open;
+use board::open::zero_board;
+use print::words::explain;
+use puzzle::byte_at;
+use reopen::reopen;
+use sudoku::CELLS;
+use texts::grids::cells;
+use texts::grids::givens;
+use texts::part;
+ghost use mathlib.Core.Path.{_≡_};
+ghost use Rattle.board.specs.Open.{openOf, Gives};
+ghost use Rattle.texts.specs.Parts.{partOf};
+ghost use Rattle.files.specs.Load.{isRecord, givenBytes, openBytes};
+
+fn nothing() -> Loaded {
+    Loaded {
+        good: false,
+        board: zero_board(),
+    }
+}
+
+// A record's first byte is the kind of its first item, 1 to 7; a text never starts so.
+fn is_record(bytes: &[u8]) -> bool
+    ensures { λ r. ⌜ r ≡ isRecord (now (bytes .entry)) ⌝ }
+{
+    let kind = byte_at(bytes, 0);
+    if kind < 1 {
+        return false;
+    }
+    kind <= 7
+}
+
+// Opens with givens in the first bytes of some.
+fn open_givens(
+    bytes: &[u8; 243],
+    length: usize,
+    right: &[u8; 81],
+    journal: &mut [u8; 8192],
+    checks: &mut [u8; 1536],
+) -> Answer
+    ensures { λ r. ⌜ Gives (openOf (partOf (now (bytes .entry)) 0 length) (now (right .entry)) (now (journal .entry)) (now (checks .entry))) r (now (journal .exit)) (now (checks .exit)) ⌝ }
+{
+    open(part(bytes, 0, length), right, journal, checks)
+}
+
+// Opens a puzzle.
+fn open_puzzle(
+    puzzle: [u8; 81],
+    right: &[u8; 81],
+    journal: &mut [u8; 8192],
+    checks: &mut [u8; 1536],
+) -> Answer
+    ensures { λ r. ⌜ Gives (openOf (givenBytes puzzle) (now (right .entry)) (now (journal .entry)) (now (checks .entry))) r (now (journal .exit)) (now (checks .exit)) ⌝ }
+{
+    let g = givens(puzzle);
+    open_givens(&g.bytes, g.length, right, journal, checks)
+}
+
+// Reopens a record, or opens a puzzle.
+pub fn open_bytes(
+    bytes: &[u8],
+    right: &[u8; 81],
+    journal: &mut [u8; 8192],
+    checks: &mut [u8; 1536],
+) -> Answer
+    ensures { λ r. ⌜ Gives (openBytes (now (bytes .entry)) (now (right .entry)) (now (journal .entry)) (now (checks .entry))) r (now (journal .exit)) (now (checks .exit)) ⌝ }
+{
+    if is_record(bytes) {
+        return reopen(bytes, right, journal, checks);
+    }
+    let found = cells(bytes);
+    let puzzle = found.cells;
+    open_puzzle(puzzle, right, journal, checks)
+}
+
+// Opens what a file holds in memory of its own, which takes the place of the lent memory only where all went well.
+fn open_apart(
+    bytes: &[u8],
+    right: &[u8; 81],
+    journal: &mut [u8; 8192],
+    checks: &mut [u8; 1536],
+) -> Loaded {
+    let mut own_journal = [0u8; 8192];
+    let mut own_checks = [0u8; 1536];
+    let answer = open_bytes(bytes, right, &mut own_journal, &mut own_checks);
+    let refused = answer.refusal;
+    if refused.number != 0 {
+        explain(refused);
+        return nothing();
+    }
+    *journal = own_journal;
+    *checks = own_checks;
+    let board = answer.board;
+    Loaded {
+        good: true,
+        board: board,
+    }
+}
+
+// Whether a file is a record, or a text of 81 cells.
+fn is_openable(path: &[u8], bytes: &[u8]) -> bool {
+    if is_record(bytes) {
+        return true;
+    }
+    is_whole(path, cells(bytes))
+}
+
+// What the first bytes of a file hold, with a solution.
+fn load_file(
+    path: &[u8],
+    file: &[u8; 8192],
+    length: usize,
+    right: &[u8; 81],
+    journal: &mut [u8; 8192],
+    checks: &mut [u8; 1536],
+) -> Loaded {
+    let bytes = part(file, 0, length);
+    if !is_openable(path, bytes) {
+        return nothing();
+    }
+    open_apart(bytes, right, journal, checks)
+}
+
+// What a file holds, with a solution.
+fn load_with(
+    path: &[u8],
+    right: &[u8; 81],
+    journal: &mut [u8; 8192],
+    checks: &mut [u8; 1536],
+) -> Loaded {
+    let mut file = [0u8; 8192];
+    let got = read(path, &mut file);
+    if !got.good {
+        return nothing();
+    }
+    load_file(path, &file, got.length, right, journal, checks)
+}
+
+// A record or a puzzle with the solution of a second file, or with the one at hand where no second file is named.
+pub fn load(
+    path: &[u8],
+    solution: &[u8],
+    at_hand: &[u8; 81],
+    journal: &mut [u8; 8192],
+    checks: &mut [u8; 1536],
+) -> Loaded {
+    if solution.len() == 0 {
+        return load_with(path, at_hand, journal, checks);
+    }
+    let found = read_cells(solution);
+    if found.count != CELLS {
+        return nothing();
+    }
+    load_with(path, &found.cells, journal, checks)
+}
