@@ -1,0 +1,4 @@
+// The referee, run for the reading of one move.
+fn main() {
+    review::run();
+}
