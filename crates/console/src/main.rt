@@ -1,0 +1,4 @@
+// Plays a board in a terminal.
+fn main() {
+    terminal::run();
+}

@@ -1,0 +1,78 @@
+// Lines of any length, of bytes of any kind, from standard input.
+use crate::Byte;
+use crate::Line;
+use libc::STDIN_FILENO;
+use puzzle::byte_at;
+
+// The most bytes of a line that is taken.
+pub const LINE_BYTES: usize = 256;
+
+// The next byte of those that were read.
+fn taken(buffer: &[u8; 4096], at: usize, end: usize) -> Byte {
+    if at < end {
+        return Byte {
+            at: at + 1,
+            end: end,
+            byte: byte_at(buffer, at),
+            ended: false,
+        };
+    }
+    Byte {
+        at: at,
+        end: end,
+        byte: 0,
+        ended: true,
+    }
+}
+
+// The next byte of the input, read anew where all that were read are used.
+fn next_byte(buffer: &mut [u8; 4096], at: usize, end: usize) -> Byte {
+    if at < end {
+        return taken(buffer, at, end);
+    }
+    let got = libc::read(STDIN_FILENO, buffer);
+    let more = io::count(got, buffer);
+    taken(buffer, 0, more)
+}
+
+// A byte at the end of a line; what finds no room is dropped, and the line is too long.
+fn put(line: &mut [u8; 256], n: usize, byte: u8) -> usize {
+    if n < LINE_BYTES {
+        line[n] = byte;
+        return n + 1;
+    }
+    LINE_BYTES + 1
+}
+
+fn line_of(b: Byte, length: usize, ended: bool) -> Line {
+    Line {
+        at: b.at,
+        end: b.end,
+        length: length,
+        ended: ended,
+    }
+}
+
+// The next line. A proved loop has to end, and nothing says that a line does, so the loop counts its turns down from a number that no line uses up.
+pub fn read_line(buffer: &mut [u8; 4096], at: usize, end: usize, line: &mut [u8; 256]) -> Line {
+    let mut turns = u64::MAX;
+    let mut n: usize = 0;
+    let mut b = Byte {
+        at: at,
+        end: end,
+        byte: 0,
+        ended: false,
+    };
+    while turns > 0 {
+        b = next_byte(buffer, b.at, b.end);
+        if b.ended {
+            return line_of(b, n, n == 0);
+        }
+        if b.byte == b'\n' {
+            return line_of(b, n, false);
+        }
+        n = put(line, n, b.byte);
+        turns -= 1;
+    }
+    line_of(b, n, true)
+}

@@ -1,0 +1,362 @@
+// What each command does: one call of the library, and what it answers shown.
+use crate::Numbers;
+use back::redo;
+use back::undo;
+use board::Answer;
+use board::Board;
+use files::disk::save;
+use files::load::load;
+use journal::slots::slot_at;
+use moves::read::reading;
+use play::checks::check;
+use play::moves::erase;
+use play::moves::place;
+use play::moves::strike_mark;
+use play::moves::write_mark;
+use play::shown::latest;
+use play::shown::next;
+use print::deeds::made;
+use print::deeds::verdict;
+use print::drawing::keys;
+use print::drawing::position;
+use print::drawing::whole;
+use print::number;
+use print::say;
+use print::shown;
+use print::words::explain;
+use puzzle::answer::refusal;
+use puzzle::digit_at;
+use record::write::write;
+use sudoku::cell_of;
+use texts::Command;
+use texts::orders::NO_NUMBER;
+use texts::orders::value;
+use texts::part;
+
+// The most bytes of a record.
+const RECORD_BYTES: usize = 5955;
+
+// What the commands of play want.
+fn wanted_of_play(verb: u8) {
+    match verb {
+        b'p' => say(b"place wants a row, a column and a digit, as in: place 1 3 4\n"),
+        b'm' => say(b"mark wants a row, a column and a digit, as in: mark 1 3 4\n"),
+        b's' => say(b"strike wants a row, a column and a digit, as in: strike 1 3 4\n"),
+        b'e' => say(b"erase wants a row and a column, as in: erase 1 3\n"),
+        _ => say(b"check wants a row and a column, as in: check 1 3\n"),
+    }
+}
+
+// What a command wants.
+fn wanted(verb: u8) {
+    match verb {
+        b'p' | b'm' | b's' | b'e' | b'c' => wanted_of_play(verb),
+        b'k' => say(b"move wants the number of a move, as in: move 1\n"),
+        b'w' => say(b"save wants the name of a file, without blanks\n"),
+        b'o' => say(
+            b"open wants a record or a puzzle, and may have its solution: names of files without blanks\n",
+        ),
+        _ => say(b"that command stands alone\n"),
+    }
+}
+
+fn help() {
+    say(
+        b"place ROW COLUMN DIGIT   p   put a digit into a cell\n\
+erase ROW COLUMN         e   empty a cell\n\
+mark ROW COLUMN DIGIT    m   pencil a mark\n\
+strike ROW COLUMN DIGIT  s   strike a mark\n\
+undo                     u   take back the latest move\n\
+redo                     r   make the next undone move again\n\
+check ROW COLUMN         c   ask whether your digit is right; the question is kept\n\
+latest                   l   show the latest standing move\n\
+next                     n   show the next move to redo\n\
+move K                   k   show move K, and the board as it stood after it\n\
+left                     d   show the digits left for each key\n\
+board                    b   draw the board again\n\
+save FILE                w   write the game to a file\n\
+open FILE [SOLUTION]     o   go on with a saved game, or open a puzzle\n\
+help                     h   show this\n\
+quit                     q   leave\n\
+[5] is a given, 5 is yours, ! at its corners: the cell clashes. Marks stand small, each at its own place.\n",
+    );
+}
+
+// A number as a byte. What is no byte is no row, no column and no digit either, and 255 is none of these.
+fn narrow(n: usize) -> u8 {
+    if n > 255 {
+        return 255;
+    }
+    n as u8
+}
+
+// The numbers of a command that wants two or three.
+fn numbered(line: &[u8], command: Command, words: usize) -> Numbers {
+    let row = value(line, command.first);
+    let column = value(line, command.second);
+    let mut digit: usize = 0;
+    if words == 3 {
+        digit = value(line, command.third);
+    }
+    let mut good = command.words == words;
+    if row == NO_NUMBER {
+        good = false;
+    }
+    if column == NO_NUMBER {
+        good = false;
+    }
+    if digit == NO_NUMBER {
+        good = false;
+    }
+    Numbers {
+        good: good,
+        row: narrow(row),
+        column: narrow(column),
+        digit: narrow(digit),
+    }
+}
+
+// The board after a call: drawn, or with the refusal's words.
+fn settled(answer: Answer, coloured: bool) -> Board {
+    let refused = answer.refusal;
+    let board = answer.board;
+    if refused.number != 0 {
+        explain(refused);
+        return board;
+    }
+    whole(board, coloured);
+    board
+}
+
+// One of the four moves.
+fn played(verb: u8, n: Numbers, board: Board, journal: &mut [u8; 8192]) -> Answer {
+    match verb {
+        b'p' => place(board, journal, n.row, n.column, n.digit),
+        b'm' => write_mark(board, journal, n.row, n.column, n.digit),
+        b's' => strike_mark(board, journal, n.row, n.column, n.digit),
+        _ => erase(board, journal, n.row, n.column),
+    }
+}
+
+// How many numbers a move wants.
+fn move_words(verb: u8) -> usize {
+    if verb == b'e' {
+        return 2;
+    }
+    3
+}
+
+fn move_command(
+    line: &[u8],
+    command: Command,
+    board: Board,
+    journal: &mut [u8; 8192],
+    coloured: bool,
+) -> Board {
+    let verb = command.verb;
+    let n = numbered(line, command, move_words(verb));
+    if !n.good {
+        wanted(verb);
+        return board;
+    }
+    settled(played(verb, n, board, journal), coloured)
+}
+
+// Undo and redo.
+fn back_command(command: Command, board: Board, journal: &[u8; 8192], coloured: bool) -> Board {
+    let verb = command.verb;
+    if command.words != 0 {
+        wanted(verb);
+        return board;
+    }
+    if verb == b'u' {
+        return settled(undo(board, journal), coloured);
+    }
+    settled(redo(board, journal), coloured)
+}
+
+fn check_command(
+    line: &[u8],
+    command: Command,
+    board: Board,
+    checks: &mut [u8; 1536],
+    coloured: bool,
+) -> Board {
+    let n = numbered(line, command, 2);
+    if !n.good {
+        wanted(command.verb);
+        return board;
+    }
+    let answer = check(board, checks, n.row, n.column);
+    let refused = answer.refusal;
+    let after = answer.board;
+    if refused.number != 0 {
+        explain(refused);
+        return after;
+    }
+    whole(after, coloured);
+    verdict(
+        after.standing,
+        n.row,
+        n.column,
+        digit_at(&after.digits, cell_of(n.row, n.column)),
+        answer.right,
+    );
+    after
+}
+
+// The latest standing move.
+fn show_latest(board: Board, journal: &[u8; 8192]) {
+    let mut refused: u8 = 0;
+    let slot = slot_at(latest(board, journal, &mut refused), 1);
+    if refused != 0 {
+        explain(refusal(refused, 0, 0));
+        return;
+    }
+    made(board.standing, slot, false);
+}
+
+// The next move to redo. It is numbered from those that stand, and a board has far fewer than a number holds.
+fn show_next(board: Board, journal: &[u8; 8192]) {
+    let mut refused: u8 = 0;
+    let slot = slot_at(next(board, journal, &mut refused), 1);
+    let standing = board.standing;
+    if refused != 0 {
+        explain(refusal(refused, 0, 0));
+        return;
+    }
+    if standing < board.made {
+        made(standing + 1, slot, true);
+    }
+}
+
+// The reading of move k.
+fn read_move(line: &[u8], command: Command, board: Board, journal: &[u8; 8192], coloured: bool) {
+    let k = value(line, command.first);
+    if command.words != 1 {
+        wanted(b'k');
+        return;
+    }
+    if k == NO_NUMBER {
+        wanted(b'k');
+        return;
+    }
+    let r = reading(board, journal, k);
+    let refused = r.refusal;
+    if refused.number != 0 {
+        explain(refused);
+        return;
+    }
+    position(&r.digits, &board.given, &r.notes, coloured);
+    made(k, slot_at(journal, k), r.undone);
+}
+
+// Saves the first bytes of a record.
+fn keep(path: &[u8], record: &[u8; RECORD_BYTES], length: usize) {
+    if save(path, part(record, 0, length)) {
+        say(b"saved in ");
+        shown(path);
+        say(b", ");
+        number(length);
+        say(b" bytes\n");
+    }
+}
+
+fn save_command(
+    line: &[u8],
+    command: Command,
+    board: Board,
+    journal: &[u8; 8192],
+    checks: &[u8; 1536],
+) {
+    if command.words != 1 {
+        wanted(b'w');
+        return;
+    }
+    let mut out = [0u8; RECORD_BYTES];
+    let written = write(board, journal, checks, &mut out);
+    let refused = written.refusal;
+    if refused.number != 0 {
+        explain(refused);
+        return;
+    }
+    let name = command.first;
+    keep(part(line, name.start, name.end), &out, written.length);
+}
+
+fn open_command(
+    line: &[u8],
+    command: Command,
+    board: Board,
+    journal: &mut [u8; 8192],
+    checks: &mut [u8; 1536],
+    coloured: bool,
+) -> Board {
+    if command.words < 1 {
+        wanted(b'o');
+        return board;
+    }
+    if command.words > 2 {
+        wanted(b'o');
+        return board;
+    }
+    let first = command.first;
+    let second = command.second;
+    let path = part(line, first.start, first.end);
+    let solution = part(line, second.start, second.end);
+    let loaded = load(path, solution, &board.solution, journal, checks);
+    if !loaded.good {
+        return board;
+    }
+    let opened = loaded.board;
+    whole(opened, coloured);
+    opened
+}
+
+// The commands that show something and change nothing.
+fn show_command(line: &[u8], command: Command, board: Board, journal: &[u8; 8192], coloured: bool) {
+    let verb = command.verb;
+    if verb == b'k' {
+        read_move(line, command, board, journal, coloured);
+        return;
+    }
+    if command.words != 0 {
+        wanted(verb);
+        return;
+    }
+    match verb {
+        b'l' => show_latest(board, journal),
+        b'n' => show_next(board, journal),
+        b'd' => keys(&board.digits),
+        b'b' => whole(board, coloured),
+        b'h' => help(),
+        _ => say(b"no such command: help lists them\n"),
+    }
+}
+
+// A command performed; the board afterwards.
+pub fn perform(
+    line: &[u8],
+    command: Command,
+    board: Board,
+    journal: &mut [u8; 8192],
+    checks: &mut [u8; 1536],
+    coloured: bool,
+) -> Board {
+    let verb = command.verb;
+    match verb {
+        b'p' | b'm' | b's' | b'e' => move_command(line, command, board, journal, coloured),
+        b'u' | b'r' => back_command(command, board, journal, coloured),
+        b'c' => check_command(line, command, board, checks, coloured),
+        b'o' => open_command(line, command, board, journal, checks, coloured),
+        b'w' => {
+            save_command(line, command, board, journal, checks);
+            board
+        }
+        b'\n' => board,
+        _ => {
+            show_command(line, command, board, journal, coloured);
+            board
+        }
+    }
+}
