@@ -313,11 +313,23 @@ fn open_command(
     opened
 }
 
+// Whether a letter is that of a command that has no words after it.
+fn stands_alone(verb: u8) -> bool {
+    match verb {
+        b'l' | b'n' | b'd' | b'b' | b'h' | b'q' => true,
+        _ => false,
+    }
+}
+
 // The commands that show something and change nothing.
 fn show_command(line: &[u8], command: Command, board: Board, journal: &[u8; 8192], coloured: bool) {
     let verb = command.verb;
     if verb == b'k' {
         read_move(line, command, board, journal, coloured);
+        return;
+    }
+    if !stands_alone(verb) {
+        say(b"no such command: help lists them\n");
         return;
     }
     if command.words != 0 {
@@ -329,8 +341,7 @@ fn show_command(line: &[u8], command: Command, board: Board, journal: &[u8; 8192
         b'n' => show_next(board, journal),
         b'd' => keys(&board.digits),
         b'b' => whole(board, coloured),
-        b'h' => help(),
-        _ => say(b"no such command: help lists them\n"),
+        _ => help(),
     }
 }
 

@@ -15,6 +15,7 @@ use print::drawing::whole;
 use print::say;
 use print::shown;
 use puzzle::byte_at;
+use texts::Command;
 use texts::grids::cells;
 use texts::orders::same;
 use texts::orders::taken_apart;
@@ -128,6 +129,13 @@ fn is_coloured(colour: u8) -> bool {
     }
 }
 
+fn is_quit(command: Command) -> bool {
+    if command.words != 0 {
+        return false;
+    }
+    command.verb == b'q'
+}
+
 // A line that was read, taken apart and performed.
 fn obey(table: Table, text: &[u8], journal: &mut [u8; 8192], checks: &mut [u8; 1536]) -> Table {
     let mut next = table;
@@ -136,7 +144,7 @@ fn obey(table: Table, text: &[u8], journal: &mut [u8; 8192], checks: &mut [u8; 1
         say(b"\n");
     }
     let command = taken_apart(text);
-    if command.verb == b'q' {
+    if is_quit(command) {
         next.over = true;
         return next;
     }
