@@ -272,7 +272,7 @@ size_t pawdoku_note_len(uint16_t note);
 uint8_t pawdoku_note_is_empty(uint16_t note);
 pawdoku_digits pawdoku_note_digits(uint16_t note);
 
-/* The grid. A position off the grid has cell 0. */
+/* The grid. A position off the grid has cell 0. Band, stack and is_peer_of answer for every byte, on the grid or not. */
 size_t pawdoku_cell_of(uint8_t row, uint8_t column);
 uint8_t pawdoku_band(uint8_t row);
 uint8_t pawdoku_stack(uint8_t column);
