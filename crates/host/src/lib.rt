@@ -12,7 +12,7 @@ ghost use lib.Dec.{leb};
 ghost use Prim.Native.Nat.{_+_};
 ghost use Rattle.sudoku.specs.Tests.{pick, both, bit, every};
 ghost use Rattle.journal.specs.Limits.{maxMoves};
-ghost use Rattle.host.specs.Host.{flagValue, hasFlags, flagsIn, boardIn, flagsOf, hostOf, answered as answeredOf, judged as judgedOf, opened as openedOf};
+ghost use Rattle.host.specs.Host.{flagValue, hasFlags, flagsIn, boardIn, flagsOf, hostOf, judged as judgedOf, opened as openedOf};
 
 // A board by value, its flags as bytes.
 #[repr(C)]
@@ -173,21 +173,7 @@ pub fn host_of(board: Board) -> HostBoard
     }
 }
 
-// What a host gets back that passed `board`: after a refusal its own board, as it came.
-pub fn answered(board: HostBoard, answer: Answer) -> HostAnswer
-    ensures { λ r. ⌜ r ≡ answeredOf board answer ⌝ }
-{
-    let refusal = answer.refusal;
-    if refusal.number != 0 {
-        return HostAnswer {
-            refusal: refusal,
-            board: board,
-        };
-    }
-    opened(answer)
-}
-
-// The same of a check.
+// What a host gets back of a check that passed `board`: after a refusal its own board, as it came.
 pub fn judged(board: HostBoard, answer: Checked) -> HostChecked
     ensures { λ r. ⌜ r ≡ judgedOf board answer ⌝ }
 {
