@@ -9,8 +9,10 @@ use journal::Slot;
 use journal::notes::masked_have;
 use journal::notes::masked_lack;
 use journal::notes::note_at;
-use journal::notes::strike_masked;
-use journal::notes::write_masked;
+use journal::notes::strike_in;
+use journal::notes::strike_masked_in;
+use journal::notes::write_in;
+use journal::notes::write_masked_in;
 use journal::slots::digit_change;
 use journal::slots::is_sound;
 use journal::slots::move_of;
@@ -19,14 +21,13 @@ use journal::steps::after_retake;
 use journal::steps::after_take_back;
 use play::moves::counted;
 use play::moves::put_in;
-use play::notes::strike_in;
-use play::notes::write_in;
 use play::numbers::number_of_lent;
 use puzzle::Refusal;
 use puzzle::answer::accepted;
 use puzzle::answer::refusal;
 use puzzle::digit_at;
 use sudoku::cell_of;
+use sudoku::peers;
 ghost use mathlib.Core.Path.{_≡_};
 ghost use mathlib.Core.Bool.{false, not};
 ghost use mathlib.Core.List.{[]};
@@ -82,7 +83,7 @@ fn restore(notes: &mut [u16; 81], cell: usize, digit: u8, mask: u32)
     if mask == 0 {
         return;
     }
-    *notes = write_masked(*notes, digit, mask, cell);
+    write_masked_in(notes, digit, mask, peers(cell));
 }
 
 // The mark struck from the notes of the peers in the mask, and from no others. A mask of 0 asks for no peers.
@@ -92,7 +93,7 @@ fn strike_again(notes: &mut [u16; 81], cell: usize, digit: u8, mask: u32)
     if mask == 0 {
         return;
     }
-    *notes = strike_masked(*notes, digit, mask, cell);
+    strike_masked_in(notes, digit, mask, peers(cell));
 }
 
 // Exactly the marks that were struck, or the mark changed, given back in place.
@@ -147,7 +148,7 @@ fn peers_lack(notes: &[u16; 81], cell: usize, digit: u8, mask: u32) -> bool
     if mask == 0 {
         return true;
     }
-    masked_lack(notes, digit, mask, cell)
+    masked_lack(notes, digit, mask, peers(cell))
 }
 
 // Whether each of the peers in the mask has the mark. A mask of 0 asks for no peers.
@@ -157,7 +158,7 @@ fn peers_have(notes: &[u16; 81], cell: usize, digit: u8, mask: u32) -> bool
     if mask == 0 {
         return true;
     }
-    masked_have(notes, digit, mask, cell)
+    masked_have(notes, digit, mask, peers(cell))
 }
 
 // Of a place: its digit stands, and none of the peers in the mask has the mark.

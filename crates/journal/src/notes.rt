@@ -1,18 +1,16 @@
-// What moves do to the kept notes: 81 of them, row by row. Each loop takes the peers of its cell once.
+// What moves do to the kept notes: 81 of them, row by row. Notes change in place. The loops go over twenty cells that the caller hands over, so the peers of a cell are asked for once; a cell that the grid does not have changes nothing.
 use note::contains;
 use note::with;
 use note::without;
 use puzzle::index_of;
-use sudoku::CELLS;
 use sudoku::PEERS_PER_CELL;
-use sudoku::peers;
 use sudoku::wide;
 ghost use mathlib.Core.Path.{_≡_};
 ghost use mathlib.Core.Bool.{not};
 ghost use Prim.Native.Nat.{_+_, _*_, _<_, _^_};
 ghost use Rattle.sudoku.specs.Tests.{pick, either, bit};
-ghost use Rattle.sudoku.specs.Grid.{at, peersOf};
-ghost use Rattle.note.specs.Note.{contains as containsOf, withMark, without as withoutMark};
+ghost use Rattle.sudoku.specs.Grid.{at};
+ghost use Rattle.note.specs.Note.{contains as containsOf};
 ghost use Rattle.journal.specs.State.{writeAt, strikeAt, strikeAll, holders as holdersOf, lowest, strikeMasked, writeMasked, everyMasked};
 
 // The kept note of a cell, and an empty note where there is no such cell.
@@ -27,45 +25,39 @@ pub fn note_at(notes: &[u16; 81], cell: usize) -> u16
     0
 }
 
-// The notes with the mark `digit` written at a cell.
-pub fn write_at(notes: [u16; 81], cell: usize, digit: u8) -> [u16; 81]
-    ensures { λ r. ⌜ r ≡ writeAt notes cell digit ⌝ }
+// The mark `digit` written at a cell.
+pub fn write_in(notes: &mut [u16; 81], cell: usize, digit: u8)
+    ensures { λ _. ⌜ now (notes .exit) ≡ writeAt (now (notes .entry)) cell digit ⌝ }
 {
+    let all: &mut [u16] = notes;
     let at = index_of(cell);
-    if at < CELLS {
-        let mut out = notes;
-        out[at] = with(notes[at], digit);
-        return out;
+    if at >= all.len() {
+        return;
     }
-    notes
+    all[at] = with(all[at], digit);
 }
 
-// The notes with the mark `digit` struck at a cell.
-pub fn strike_at(notes: [u16; 81], cell: usize, digit: u8) -> [u16; 81]
-    ensures { λ r. ⌜ r ≡ strikeAt notes cell digit ⌝ }
+// The mark `digit` struck at a cell.
+pub fn strike_in(notes: &mut [u16; 81], cell: usize, digit: u8)
+    ensures { λ _. ⌜ now (notes .exit) ≡ strikeAt (now (notes .entry)) cell digit ⌝ }
 {
+    let all: &mut [u16] = notes;
     let at = index_of(cell);
-    if at < CELLS {
-        let mut out = notes;
-        out[at] = without(notes[at], digit);
-        return out;
+    if at >= all.len() {
+        return;
     }
-    notes
+    all[at] = without(all[at], digit);
 }
 
-// The notes with the mark `digit` struck from each peer of a cell that has it, whether the peer holds a digit or not.
-pub fn strike_all(notes: [u16; 81], digit: u8, cell: usize) -> [u16; 81]
-    ensures { λ r. ⌜ r ≡ strikeAll notes digit (peersOf cell) ⌝ }
+// The mark `digit` struck from each of the cells that has it, whether the cell holds a digit or not.
+pub fn strike_all_in(notes: &mut [u16; 81], digit: u8, cells: [u8; 20])
+    ensures { λ _. ⌜ now (notes .exit) ≡ strikeAll (now (notes .entry)) digit cells ⌝ }
 {
-    let ps = peers(cell);
-    let mut out = notes;
     let mut i: usize = 0;
     while i < PEERS_PER_CELL {
-        let at = index_of(wide(ps[i]));
-        out[at] = without(out[at], digit);
+        strike_in(notes, wide(cells[i]), digit);
         i += 1;
     }
-    out
 }
 
 // The mask with one bit more in front, the lowest: whether the mark `digit` stands in the note.
@@ -79,72 +71,63 @@ fn with_bit(mask: u32, note: u16, digit: u8) -> u32
     2 * mask
 }
 
-// The mask of the peers of a cell whose note has the mark `digit`: bit i for peer i. The last peer's bit is the highest, so it is found first.
-pub fn holders(notes: &[u16; 81], digit: u8, cell: usize) -> u32
-    ensures { λ r. ⌜ (r ≡ holdersOf (now (notes .entry)) digit (peersOf cell)) × (r < 2 ^ 20) ⌝ }
+// The mask of the cells whose note has the mark `digit`: bit i for cell i. The last cell's bit is the highest, so it is found first.
+pub fn holders(notes: &[u16; 81], digit: u8, cells: [u8; 20]) -> u32
+    ensures { λ r. ⌜ (r ≡ holdersOf (now (notes .entry)) digit cells) × (r < 2 ^ 20) ⌝ }
 {
-    let ps = peers(cell);
     let mut mask: u32 = 0;
     let mut i = PEERS_PER_CELL;
     while i > 0 {
         i -= 1;
-        mask = with_bit(mask, notes[index_of(wide(ps[i]))], digit);
+        mask = with_bit(mask, note_at(notes, wide(cells[i])), digit);
     }
     mask
 }
 
-// The note with the mark `digit` struck where the lowest bit of the mask is set.
-fn struck_if(note: u16, digit: u8, mask: u32) -> u16
-    ensures { λ r. ⌜ r ≡ pick (lowest mask) (withoutMark note digit) note ⌝ }
+// The mark `digit` struck at a cell where the lowest bit of the mask is set.
+fn strike_if(notes: &mut [u16; 81], cell: usize, digit: u8, mask: u32)
+    ensures { λ _. ⌜ now (notes .exit) ≡ pick (lowest mask) (strikeAt (now (notes .entry)) cell digit) (now (notes .entry)) ⌝ }
 {
-    if mask % 2 == 1 {
-        return without(note, digit);
+    if mask % 2 == 0 {
+        return;
     }
-    note
+    strike_in(notes, cell, digit);
 }
 
-// The note with the mark `digit` written where the lowest bit of the mask is set.
-fn written_if(note: u16, digit: u8, mask: u32) -> u16
-    ensures { λ r. ⌜ r ≡ pick (lowest mask) (withMark note digit) note ⌝ }
+// The mark `digit` written at a cell where the lowest bit of the mask is set.
+fn write_if(notes: &mut [u16; 81], cell: usize, digit: u8, mask: u32)
+    ensures { λ _. ⌜ now (notes .exit) ≡ pick (lowest mask) (writeAt (now (notes .entry)) cell digit) (now (notes .entry)) ⌝ }
 {
-    if mask % 2 == 1 {
-        return with(note, digit);
+    if mask % 2 == 0 {
+        return;
     }
-    note
+    write_in(notes, cell, digit);
 }
 
-// The notes with the mark `digit` struck from those peers of a cell whose bit is set in the mask.
-pub fn strike_masked(notes: [u16; 81], digit: u8, mask: u32, cell: usize) -> [u16; 81]
-    ensures { λ r. ⌜ r ≡ strikeMasked notes digit mask (peersOf cell) ⌝ }
+// The mark `digit` struck from those of the cells whose bit is set in the mask.
+pub fn strike_masked_in(notes: &mut [u16; 81], digit: u8, mask: u32, cells: [u8; 20])
+    ensures { λ _. ⌜ now (notes .exit) ≡ strikeMasked (now (notes .entry)) digit mask cells ⌝ }
 {
-    let ps = peers(cell);
-    let mut out = notes;
     let mut rest = mask;
     let mut i: usize = 0;
     while i < PEERS_PER_CELL {
-        let at = index_of(wide(ps[i]));
-        out[at] = struck_if(out[at], digit, rest);
+        strike_if(notes, wide(cells[i]), digit, rest);
         rest = rest / 2;
         i += 1;
     }
-    out
 }
 
-// The notes with the mark `digit` written into those peers of a cell whose bit is set in the mask, and no others.
-pub fn write_masked(notes: [u16; 81], digit: u8, mask: u32, cell: usize) -> [u16; 81]
-    ensures { λ r. ⌜ r ≡ writeMasked notes digit mask (peersOf cell) ⌝ }
+// The mark `digit` written into those of the cells whose bit is set in the mask, and no others.
+pub fn write_masked_in(notes: &mut [u16; 81], digit: u8, mask: u32, cells: [u8; 20])
+    ensures { λ _. ⌜ now (notes .exit) ≡ writeMasked (now (notes .entry)) digit mask cells ⌝ }
 {
-    let ps = peers(cell);
-    let mut out = notes;
     let mut rest = mask;
     let mut i: usize = 0;
     while i < PEERS_PER_CELL {
-        let at = index_of(wide(ps[i]));
-        out[at] = written_if(out[at], digit, rest);
+        write_if(notes, wide(cells[i]), digit, rest);
         rest = rest / 2;
         i += 1;
     }
-    out
 }
 
 // Whether the mark `digit` stands in the note, where the lowest bit of the mask is set.
@@ -167,15 +150,14 @@ fn lacks_if(note: u16, digit: u8, mask: u32) -> bool
     true
 }
 
-// Whether each peer of a cell whose bit is set in the mask has the mark `digit`.
-pub fn masked_have(notes: &[u16; 81], digit: u8, mask: u32, cell: usize) -> bool
-    ensures { λ r. ⌜ r ≡ everyMasked (λ peer. containsOf (at (now (notes .entry)) peer) digit) mask (peersOf cell) ⌝ }
+// Whether each of the cells whose bit is set in the mask has the mark `digit`.
+pub fn masked_have(notes: &[u16; 81], digit: u8, mask: u32, cells: [u8; 20]) -> bool
+    ensures { λ r. ⌜ r ≡ everyMasked (λ peer. containsOf (at (now (notes .entry)) peer) digit) mask cells ⌝ }
 {
-    let ps = peers(cell);
     let mut rest = mask;
     let mut i: usize = 0;
     while i < PEERS_PER_CELL {
-        if !has_if(notes[index_of(wide(ps[i]))], digit, rest) {
+        if !has_if(note_at(notes, wide(cells[i])), digit, rest) {
             return false;
         }
         rest = rest / 2;
@@ -184,15 +166,14 @@ pub fn masked_have(notes: &[u16; 81], digit: u8, mask: u32, cell: usize) -> bool
     true
 }
 
-// Whether no peer of a cell whose bit is set in the mask has the mark `digit`.
-pub fn masked_lack(notes: &[u16; 81], digit: u8, mask: u32, cell: usize) -> bool
-    ensures { λ r. ⌜ r ≡ everyMasked (λ peer. not (containsOf (at (now (notes .entry)) peer) digit)) mask (peersOf cell) ⌝ }
+// Whether none of the cells whose bit is set in the mask has the mark `digit`.
+pub fn masked_lack(notes: &[u16; 81], digit: u8, mask: u32, cells: [u8; 20]) -> bool
+    ensures { λ r. ⌜ r ≡ everyMasked (λ peer. not (containsOf (at (now (notes .entry)) peer) digit)) mask cells ⌝ }
 {
-    let ps = peers(cell);
     let mut rest = mask;
     let mut i: usize = 0;
     while i < PEERS_PER_CELL {
-        if !lacks_if(notes[index_of(wide(ps[i]))], digit, rest) {
+        if !lacks_if(note_at(notes, wide(cells[i])), digit, rest) {
             return false;
         }
         rest = rest / 2;

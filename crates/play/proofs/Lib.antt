@@ -2,4 +2,3 @@ pub mod Joined
 pub mod Accepted
 pub mod Slots
 pub mod Parts
-pub mod Cells

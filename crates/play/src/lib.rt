@@ -3,7 +3,6 @@
 
 pub mod checks;
 pub mod moves;
-pub mod notes;
 pub mod numbers;
 pub mod shown;
 pub mod sound;

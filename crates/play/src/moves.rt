@@ -1,7 +1,4 @@
 // The four moves: what each one does to the board, what it displaces, and how it is recorded.
-use crate::notes::strike_all_in;
-use crate::notes::strike_in;
-use crate::notes::write_in;
 use crate::numbers::call_number;
 use board::Answer;
 use board::Board;
@@ -9,6 +6,9 @@ use journal::Counts;
 use journal::Move;
 use journal::Slot;
 use journal::notes::holders;
+use journal::notes::strike_all_in;
+use journal::notes::strike_in;
+use journal::notes::write_in;
 use journal::slots::write_slot;
 use journal::steps::after_record;
 use puzzle::answer::accepted;
@@ -25,7 +25,7 @@ ghost use Prim.Native.Nat.{_*_};
 ghost use Rattle.sudoku.specs.Grid.{put, peersOf};
 ghost use Rattle.journal.specs.Limits.{slotBytes};
 ghost use Rattle.journal.specs.Bytes.{laid};
-ghost use Rattle.journal.specs.State.{putDigit, withNotes, strikeAll, strikeAt, writeAt, perform as performOf};
+ghost use Rattle.journal.specs.State.{putDigit, strikeAll, perform as performOf};
 ghost use Rattle.journal.specs.Slots.{slotFor, bytesOf};
 ghost use Rattle.board.specs.Board.{stateOf, countsOf, moved};
 ghost use Rattle.play.specs.Parts.{parts};
@@ -54,26 +54,6 @@ pub fn put_in(digits: &mut [u8; 81], solved: bool, cell: usize, digit: u8) -> bo
     settled(digits, solved)
 }
 
-// The same of a board.
-pub fn put_digit(board: Board, cell: usize, digit: u8) -> Board
-    ensures { λ r. ⌜ r ≡ moved board (putDigit (stateOf board) cell digit) (countsOf board) ⌝ }
-{
-    let before = board.solved;
-    let mut next = board;
-    let solved = put_in(&mut next.digits, before, cell, digit);
-    next.solved = solved;
-    next
-}
-
-// The board with other notes.
-pub fn with_notes(board: Board, notes: [u16; 81]) -> Board
-    ensures { λ r. ⌜ r ≡ moved board (withNotes (stateOf board) notes) (countsOf board) ⌝ }
-{
-    let mut next = board;
-    next.notes = notes;
-    next
-}
-
 // The board with other counts.
 pub fn counted(board: Board, counts: Counts) -> Board
     ensures { λ r. ⌜ r ≡ moved board (stateOf board) counts ⌝ }
@@ -81,24 +61,6 @@ pub fn counted(board: Board, counts: Counts) -> Board
     let mut next = board;
     next.made = counts.made;
     next.standing = counts.standing;
-    next
-}
-
-// A mark written at a cell.
-pub fn marked(board: Board, cell: usize, digit: u8) -> Board
-    ensures { λ r. ⌜ r ≡ moved board (withNotes (stateOf board) (writeAt (board .notes) cell digit)) (countsOf board) ⌝ }
-{
-    let mut next = board;
-    write_in(&mut next.notes, cell, digit);
-    next
-}
-
-// A mark struck at a cell.
-pub fn unmarked(board: Board, cell: usize, digit: u8) -> Board
-    ensures { λ r. ⌜ r ≡ moved board (withNotes (stateOf board) (strikeAt (board .notes) cell digit)) (countsOf board) ⌝ }
-{
-    let mut next = board;
-    strike_in(&mut next.notes, cell, digit);
     next
 }
 
@@ -166,7 +128,7 @@ pub fn slot_of<'a>(digits: &'a [u8; 81], notes: &'a [u16; 81], m: Move) -> Slot
                 column: column,
                 digit: digit,
                 before: digit_at(digits, cell),
-                struck: holders(notes, digit, cell),
+                struck: holders(notes, digit, peers(cell)),
             }
         }
         Move::Erase { row, column } => {

@@ -9,11 +9,14 @@ use Rattle.back.proofs.peers_have.Tie as tie
 returns : tie.Need-returns
 returns c = rw (c .if1 .taken) (sym (every-none _ _))
 
+peers-requires : tie.Need-peers-requires
+peers-requires c κs = search needs
+
 masked-have-requires : tie.Need-masked-have-requires
 masked-have-requires c κs = search needs
 
 returns-2 : tie.Need-returns-2
-returns-2 c = c .masked-have .ensures
+returns-2 c = rw (c .masked-have .ensures, c .before .peers .ensures)
 
 pub peers-have-spec : {M : Type 1} → statement M
-peers-have-spec = tie.close (tie.spec returns masked-have-requires returns-2)
+peers-have-spec = tie.close (tie.spec returns peers-requires masked-have-requires returns-2)

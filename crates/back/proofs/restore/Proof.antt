@@ -9,11 +9,14 @@ use Rattle.back.proofs.restore.Tie as tie
 returns : tie.Need-returns
 returns c = rw (c .if1 .taken) (sym (write-none _ _ _))
 
-write-masked-requires : tie.Need-write-masked-requires
-write-masked-requires c κs = search needs
+peers-requires : tie.Need-peers-requires
+peers-requires c κs = search needs
+
+write-masked-in-requires : tie.Need-write-masked-in-requires
+write-masked-in-requires c κs = search needs
 
 returns-2 : tie.Need-returns-2
-returns-2 c = c .write-masked .ensures
+returns-2 c = rw (c .write-masked-in .ensures, c .before .peers .ensures)
 
 pub restore-spec : {M : Type 1} → statement M
-restore-spec = tie.close (tie.spec returns write-masked-requires returns-2)
+restore-spec = tie.close (tie.spec returns peers-requires write-masked-in-requires returns-2)

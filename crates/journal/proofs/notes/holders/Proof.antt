@@ -1,26 +1,23 @@
--- `journal::notes::holders` meets its contract. The loop's invariant: the mask is that of the peers from i on.
+-- `journal::notes::holders` meets its contract. The loop's invariant: the mask is that of the cells from i on.
 -- Assumes nothing.
-use Prim.Native.Nat.{_-_, _≤_, _<_}
-use mathlib.Core.Path.{_≡_, sym, ap, _∙_}
+use Prim.Native.Nat.{_≤_}
+use mathlib.Core.Path.{_≡_, sym, _∙_}
 use native.Mathlib.Omega.{arith}
 use borrow.Author.Needs.{needs}
 use lib.ListN.{drop}
 use Rattle.journal.specs.State.{holders}
-use Rattle.journal.proofs.PeerLoops.{peer-below, holders-turn, holders-end, holders-fit}
+use Rattle.journal.proofs.CellLoops.{holders-turn, holders-end, holders-fit}
 use Rattle.journal.proofs.notes.holders.Statement.{statement}
 use Rattle.journal.proofs.notes.holders.Tie as tie
 
 abbrev Inv-loop : tie.InvT-loop
-Inv-loop notes digit cell ps mask₀ i₀ mask i = (i ≤ 20) × (mask ≡ holders notes digit (drop i ps))
+Inv-loop notes digit cells mask₀ i₀ mask i = (i ≤ 20) × (mask ≡ holders notes digit (drop i cells))
 
 abbrev μ-loop : tie.MeasureT-loop
-μ-loop notes digit cell ps mask₀ i₀ mask i = i
-
-peers-requires : tie.Need-peers-requires Inv-loop μ-loop
-peers-requires c κs = search needs
+μ-loop notes digit cells mask₀ i₀ mask i = i
 
 loop-holds : tie.Need-loop-holds Inv-loop μ-loop
-loop-holds c = (omega arith, sym (holders-end _ _ 20 (c .peers .ensures) (omega arith) _ _))
+loop-holds c = (omega arith, sym (holders-end (c .args .t3) 20 (search needs) (omega arith) _ _))
 
 sub-i : tie.Need-sub-i Inv-loop μ-loop
 sub-i c = search needs
@@ -31,17 +28,11 @@ array-read-wide c = search needs
 wide-requires : tie.Need-wide-requires Inv-loop μ-loop
 wide-requires c κs = search needs
 
-index-of-requires : tie.Need-index-of-requires Inv-loop μ-loop
-index-of-requires c κs = search needs
-
-mul-with-bit : tie.Need-mul-with-bit Inv-loop μ-loop
-mul-with-bit c = let h : c .before .before .before .loop .i - 1 < 20 = omega arith in omega (arith, c .index-of .ensures, c .before .wide .ensures .0, peer-below _ _ _ (c .before .before .before .before .peers .ensures) h)
-
-element-copy-out-with-bit : tie.Need-element-copy-out-with-bit Inv-loop μ-loop
-element-copy-out-with-bit c = let h : c .before .before .before .loop .i - 1 < 20 = omega arith in omega (arith, c .index-of .ensures, c .before .wide .ensures .0, peer-below _ _ _ (c .before .before .before .before .peers .ensures) h)
+note-at-requires : tie.Need-note-at-requires Inv-loop μ-loop
+note-at-requires c κs = search needs
 
 with-bit-requires : tie.Need-with-bit-requires Inv-loop μ-loop
-with-bit-requires c κs = rw (c .before .before .before .before .loop .inv .1) (holders-fit _ _ _ _ (c .before .before .before .before .loop .i) (c .before .before .before .before .before .peers .ensures))
+with-bit-requires c κs = rw (c .before .before .before .loop .inv .1) (holders-fit _ (c .before .before .before .before .args .t3) _ (c .before .before .before .loop .i) (search needs))
 
 loop-less : tie.Need-loop-less Inv-loop μ-loop
 loop-less c = search needs
@@ -49,31 +40,15 @@ loop-less c = search needs
 loop-again : tie.Need-loop-again Inv-loop μ-loop
 loop-again c = (
   omega arith,
-  holders-turn _ _ _ _ _ _ _ _ (c .before .before .before .before .before .before .peers .ensures) (c .before .before .before .before .loop-test .taken) (c .before .before .before .before .before .loop .inv .0) (c .before .before .index-of .ensures ∙ ap (λ n. n - 1) (c .before .before .before .wide .ensures .0))
-      (c .before .before .before .before .before .loop .inv .1) (c .with-bit .ensures),
+  rw (c .with-bit .ensures, c .before .note-at .ensures, c .before .before .wide .ensures .0)
+      (holders-turn _ (c .before .before .before .before .before .args .t3) _ (c .before .before .before .before .loop .i) _ (search needs) (c .before .before .before .loop-test .taken) (c .before .before .before .before .loop .inv .0) (c .before .before .before .before .loop .inv .1)),
 )
 
 returns : tie.Need-returns Inv-loop μ-loop
 returns c =
     let z : c .before .loop .i ≡ 0 = omega arith in
     let e = c .before .loop .inv .1 in
-    (e ∙ rw (z, c .before .before .peers .ensures), rw e (holders-fit _ _ _ _ (c .before .loop .i) (c .before .before .peers .ensures)))
+    (e ∙ rw z, rw e (holders-fit _ (c .before .before .args .t3) _ (c .before .loop .i) (search needs)))
 
 pub holders-spec : {M : Type 1} → statement M
-holders-spec =
-    tie.close
-    (tie.spec
-    Inv-loop
-    μ-loop
-    peers-requires
-    loop-holds
-    sub-i
-    array-read-wide
-    wide-requires
-    index-of-requires
-    mul-with-bit
-    element-copy-out-with-bit
-    with-bit-requires
-    loop-less
-    loop-again
-    returns)
+holders-spec = tie.close (tie.spec Inv-loop μ-loop loop-holds sub-i array-read-wide wide-requires note-at-requires with-bit-requires loop-less loop-again returns)

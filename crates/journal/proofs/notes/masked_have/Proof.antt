@@ -1,26 +1,24 @@
--- `journal::notes::masked_have` meets its contract. The loop's invariant: the test of what is left of the peers by the rest of the mask is the answer.
+-- `journal::notes::masked_have` meets its contract. The loop's invariant: the test of what is left of the cells by the rest of the mask is the answer.
 -- Assumes nothing.
 use Prim.Native.Nat.{_-_}
 use mathlib.Core.Path.{_≡_, refl, sym, ap, _∙_}
-use native.Mathlib.Omega.{arith}
+use mathlib.Core.Bool.{not}
 use borrow.Author.Tests.{not-true, not-false}
 use borrow.Author.Needs.{needs}
 use lib.ListN.{drop}
+use Rattle.sudoku.specs.Tests.{either}
 use Rattle.sudoku.specs.Grid.{at}
 use Rattle.note.specs.Note.{contains}
-use Rattle.journal.specs.State.{everyMasked}
-use Rattle.journal.proofs.PeerLoops.{peer-below, masked-more, masked-fails, masked-end}
+use Rattle.journal.specs.State.{lowest, everyMasked}
+use Rattle.journal.proofs.CellLoops.{masked-more, masked-fails, masked-end}
 use Rattle.journal.proofs.notes.masked_have.Statement.{statement}
 use Rattle.journal.proofs.notes.masked_have.Tie as tie
 
 abbrev Inv-loop : tie.InvT-loop
-Inv-loop notes digit mask cell ps rest₀ i₀ rest i = everyMasked (λ peer. contains (at notes peer) digit) mask ps ≡ everyMasked (λ peer. contains (at notes peer) digit) rest (drop i ps)
+Inv-loop notes digit mask cells rest₀ i₀ rest i = everyMasked (λ peer. contains (at notes peer) digit) mask cells ≡ everyMasked (λ peer. contains (at notes peer) digit) rest (drop i cells)
 
 abbrev μ-loop : tie.MeasureT-loop
-μ-loop notes digit mask cell ps rest₀ i₀ rest i = 20 - i
-
-peers-requires : tie.Need-peers-requires Inv-loop μ-loop
-peers-requires c κs = search needs
+μ-loop notes digit mask cells rest₀ i₀ rest i = 20 - i
 
 loop-holds : tie.Need-loop-holds Inv-loop μ-loop
 loop-holds c = refl
@@ -31,24 +29,17 @@ array-read-wide c = search needs
 wide-requires : tie.Need-wide-requires Inv-loop μ-loop
 wide-requires c κs = search needs
 
-index-of-requires : tie.Need-index-of-requires Inv-loop μ-loop
-index-of-requires c κs = search needs
-
-mul-has-if : tie.Need-mul-has-if Inv-loop μ-loop
-mul-has-if c = omega (arith, c .index-of .ensures, c .before .wide .ensures .0, peer-below _ _ _ (c .before .before .before .before .peers .ensures) (c .before .before .loop-test .taken))
-
-element-copy-out-has-if : tie.Need-element-copy-out-has-if Inv-loop μ-loop
-element-copy-out-has-if c = omega (arith, c .index-of .ensures, c .before .wide .ensures .0, peer-below _ _ _ (c .before .before .before .before .peers .ensures) (c .before .before .loop-test .taken))
+note-at-requires : tie.Need-note-at-requires Inv-loop μ-loop
+note-at-requires c κs = search needs
 
 has-if-requires : tie.Need-has-if-requires Inv-loop μ-loop
 has-if-requires c κs = search needs
 
 returns : tie.Need-returns Inv-loop μ-loop
 returns c = sym
-    (rw (sym (c .before .before .before .before .before .before .before .peers .ensures))
-    (c .before .before .before .before .before .before .loop .inv
-    ∙ masked-fails (λ note. contains note (c .before .before .before .before .before .before .before .before .args .digit)) _ _ _ _ _ _ (c .before .before .before .before .before .before .before .peers .ensures) (c .before .before .before .before .before .loop-test .taken) (c .before .before .before .index-of .ensures ∙ ap (λ n. n - 1) (c .before .before .before .before .wide .ensures .0))
-    (sym (c .before .has-if .ensures) ∙ not-true _ (c .if1 .taken))))
+    (c .before .before .before .before .before .loop .inv
+    ∙ masked-fails (c .before .before .before .before .before .before .args .t4) (c .before .before .before .before .before .loop .i) (search needs) (c .before .before .before .before .loop-test .taken) _ _
+    (sym (c .before .has-if .ensures ∙ ap (λ note. either (not (lowest (c .before .before .before .before .before .loop .rest))) (contains note (c .before .before .before .before .before .before .args .digit))) (c .before .before .note-at .ensures ∙ ap (at (c .before .before .before .before .before .before .args .notes .now)) (c .before .before .before .wide .ensures .0))) ∙ not-true _ (c .if1 .taken)))
 
 add-i : tie.Need-add-i Inv-loop μ-loop
 add-i c = search needs
@@ -57,29 +48,12 @@ loop-less : tie.Need-loop-less Inv-loop μ-loop
 loop-less c = search needs
 
 loop-again : tie.Need-loop-again Inv-loop μ-loop
-loop-again c = c .before .before .before .before .before .before .loop .inv
-    ∙ masked-more (λ note. contains note (c .before .before .before .before .before .before .before .before .args .digit)) _ _ _ _ _ _ (c .before .before .before .before .before .before .before .peers .ensures) (c .before .before .before .before .before .loop-test .taken) (c .before .before .before .index-of .ensures ∙ ap (λ n. n - 1) (c .before .before .before .before .wide .ensures .0))
-    (sym (c .before .has-if .ensures) ∙ not-false _ (c .if1 .left))
+loop-again c = c .before .before .before .before .before .loop .inv
+    ∙ masked-more (c .before .before .before .before .before .before .args .t4) (c .before .before .before .before .before .loop .i) (search needs) (c .before .before .before .before .loop-test .taken) _ _
+    (sym (c .before .has-if .ensures ∙ ap (λ note. either (not (lowest (c .before .before .before .before .before .loop .rest))) (contains note (c .before .before .before .before .before .before .args .digit))) (c .before .before .note-at .ensures ∙ ap (at (c .before .before .before .before .before .before .args .notes .now)) (c .before .before .before .wide .ensures .0))) ∙ not-false _ (c .if1 .left))
 
 returns-2 : tie.Need-returns-2 Inv-loop μ-loop
-returns-2 c = sym (rw (sym (c .before .before .peers .ensures)) (c .before .loop .inv ∙ masked-end _ _ _ (c .before .before .peers .ensures) (c .loop-test .left) _ _))
+returns-2 c = sym (c .before .loop .inv ∙ masked-end (c .before .before .args .t4) (c .before .loop .i) (search needs) (c .loop-test .left) _ _)
 
 pub masked-have-spec : {M : Type 1} → statement M
-masked-have-spec =
-    tie.close
-    (tie.spec
-    Inv-loop
-    μ-loop
-    peers-requires
-    loop-holds
-    array-read-wide
-    wide-requires
-    index-of-requires
-    mul-has-if
-    element-copy-out-has-if
-    has-if-requires
-    returns
-    add-i
-    loop-less
-    loop-again
-    returns-2)
+masked-have-spec = tie.close (tie.spec Inv-loop μ-loop loop-holds array-read-wide wide-requires note-at-requires has-if-requires returns add-i loop-less loop-again returns-2)

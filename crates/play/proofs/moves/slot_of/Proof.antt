@@ -15,6 +15,9 @@ cell-of-requires c κs = search needs
 digit-at-requires : tie.Need-digit-at-requires
 digit-at-requires c κs = search needs
 
+peers-requires : tie.Need-peers-requires
+peers-requires c κs = search needs
+
 holders-requires : tie.Need-holders-requires
 holders-requires c κs = search needs
 
@@ -35,7 +38,7 @@ enum-known-m-4 c = search needs
 
 returns : tie.Need-returns
 unfolding slotFor kindOf rowIn columnIn digitIn before struck digitAt
-returns c = rw (c .before .before .before .before .m .given .1, c .holders .ensures .0, c .before .digit-at .ensures, c .before .before .cell-of .ensures .0)
+returns c = rw (c .before .before .before .before .before .m .given .1, c .holders .ensures .0, c .before .peers .ensures, c .before .before .digit-at .ensures, c .before .before .before .cell-of .ensures .0)
 
 returns-2 : tie.Need-returns-2
 unfolding slotFor kindOf rowIn columnIn digitIn before struck digitAt
@@ -50,4 +53,4 @@ unfolding slotFor kindOf rowIn columnIn digitIn before struck digitAt
 returns-4 c = rw (c .before .m4 .given .1)
 
 pub slot-of-spec : {M : Type 1} → statement M
-slot-of-spec = tie.close (tie.spec enum-known-m cell-of-requires digit-at-requires holders-requires enum-known-m-2 cell-of-requires-2 digit-at-requires-2 enum-known-m-3 enum-known-m-4 returns returns-2 returns-3 returns-4)
+slot-of-spec = tie.close (tie.spec enum-known-m cell-of-requires digit-at-requires peers-requires holders-requires enum-known-m-2 cell-of-requires-2 digit-at-requires-2 enum-known-m-3 enum-known-m-4 returns returns-2 returns-3 returns-4)

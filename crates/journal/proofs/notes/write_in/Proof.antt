@@ -1,13 +1,13 @@
--- `play::notes::write_in` meets its contract: beyond the list there is nothing to change.
+-- `journal::notes::write_in` meets its contract: beyond the list there is nothing to change.
 -- Assumes nothing.
 use mathlib.Core.Path.{_≡_, sym}
 use native.Mathlib.Omega.{arith}
 use lib.Seq.{set-out}
 use Rattle.sudoku.specs.Grid.{at, put}
 use Rattle.journal.specs.State.{writeAt}
 use borrow.Author.Needs.{needs}
-use Rattle.play.proofs.notes.write_in.Statement.{statement}
-use Rattle.play.proofs.notes.write_in.Tie as tie
+use Rattle.journal.proofs.notes.write_in.Statement.{statement}
+use Rattle.journal.proofs.notes.write_in.Tie as tie
 
 index-of-requires : tie.Need-index-of-requires
 index-of-requires c κs = search needs

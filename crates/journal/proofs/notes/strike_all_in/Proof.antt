@@ -1,13 +1,13 @@
--- `play::notes::strike_all_in` meets its contract. The loop's invariant: striking at what is left of the cells completes the answer.
+-- `journal::notes::strike_all_in` meets its contract. The loop's invariant: striking at what is left of the cells completes the answer.
 -- Assumes nothing.
 use Prim.Native.Nat.{_-_}
 use mathlib.Core.Path.{_≡_, refl, sym, _∙_}
 use lib.ListN.{drop}
 use Rattle.journal.specs.State.{strikeAll}
-use Rattle.play.proofs.Cells.{strike-all-turn, strike-all-end}
+use Rattle.journal.proofs.CellLoops.{strike-all-turn, strike-all-end}
 use borrow.Author.Needs.{needs}
-use Rattle.play.proofs.notes.strike_all_in.Statement.{statement}
-use Rattle.play.proofs.notes.strike_all_in.Tie as tie
+use Rattle.journal.proofs.notes.strike_all_in.Statement.{statement}
+use Rattle.journal.proofs.notes.strike_all_in.Tie as tie
 
 abbrev Inv-loop : tie.InvT-loop
 Inv-loop notes₀ digit cells i₀ notes i = strikeAll notes₀ digit cells ≡ strikeAll notes digit (drop i cells)
@@ -34,10 +34,10 @@ loop-less : tie.Need-loop-less Inv-loop μ-loop
 loop-less c = search needs
 
 loop-again : tie.Need-loop-again Inv-loop μ-loop
-loop-again c = c .before .before .before .before .loop .inv ∙ strike-all-turn (c .before .before .before .before .before .args .t3) (c .before .before .before .before .loop .i) (search needs) _ _ (c .before .before .before .loop-test .taken) ∙ rw (c .strike-in .ensures, c .before .wide .ensures .0)
+loop-again c = c .before .before .before .before .loop .inv ∙ strike-all-turn (c .before .before .before .before .before .args .t3) (c .before .before .before .before .loop .i) (search needs) (c .before .before .before .loop-test .taken) _ _ ∙ rw (c .strike-in .ensures, c .before .wide .ensures .0)
 
 returns : tie.Need-returns Inv-loop μ-loop
-returns c = sym (c .before .loop .inv ∙ strike-all-end (c .before .before .args .t3) (c .before .loop .i) (search needs) _ _ (c .loop-test .left))
+returns c = sym (c .before .loop .inv ∙ strike-all-end (c .before .before .args .t3) (c .before .loop .i) (search needs) (c .loop-test .left) _ _)
 
 pub strike-all-in-spec : {M : Type 1} → statement M
 strike-all-in-spec = tie.close (tie.spec Inv-loop μ-loop loop-holds array-read-wide wide-requires strike-in-requires add-i loop-less loop-again returns)
