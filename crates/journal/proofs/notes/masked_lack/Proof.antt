@@ -1,15 +1,14 @@
 -- `journal::notes::masked_lack` meets its contract. The loop's invariant: the test of what is left of the cells by the rest of the mask is the answer.
 -- Assumes nothing.
 use Prim.Native.Nat.{_-_}
-use mathlib.Core.Path.{_≡_, refl, sym, ap, _∙_}
+use mathlib.Core.Path.{_≡_, refl, sym, _∙_}
 use mathlib.Core.Bool.{not}
 use borrow.Author.Tests.{not-true, not-false}
 use borrow.Author.Needs.{needs}
 use lib.ListN.{drop}
-use Rattle.sudoku.specs.Tests.{either}
 use Rattle.sudoku.specs.Grid.{at}
 use Rattle.note.specs.Note.{contains}
-use Rattle.journal.specs.State.{lowest, everyMasked}
+use Rattle.journal.specs.State.{everyMasked}
 use Rattle.journal.proofs.CellLoops.{masked-more, masked-fails, masked-end}
 use Rattle.journal.proofs.notes.masked_lack.Statement.{statement}
 use Rattle.journal.proofs.notes.masked_lack.Tie as tie
@@ -38,8 +37,8 @@ lacks-if-requires c κs = search needs
 returns : tie.Need-returns Inv-loop μ-loop
 returns c = sym
     (c .before .before .before .before .before .loop .inv
-    ∙ masked-fails (c .before .before .before .before .before .before .args .t4) (c .before .before .before .before .before .loop .i) (search needs) (c .before .before .before .before .loop-test .taken) _ _
-    (sym (c .before .lacks-if .ensures ∙ ap (λ note. either (not (lowest (c .before .before .before .before .before .loop .rest))) (not (contains note (c .before .before .before .before .before .before .args .digit)))) (c .before .before .note-at .ensures ∙ ap (at (c .before .before .before .before .before .before .args .notes .now)) (c .before .before .before .wide .ensures .0))) ∙ not-true _ (c .if1 .taken)))
+    ∙ masked-fails (c .before .before .before .before .before .before .args .t4) (c .before .before .before .before .before .loop .i) (search needs) (c .before .before .before .before .loop-test .taken) (λ peer. not (contains (at (c .before .before .before .before .before .before .args .notes .now) peer) (c .before .before .before .before .before .before .args .digit))) (c .before .before .before .before .before .loop .rest)
+    (rw (← c .before .before .before .wide .ensures .0, ← c .before .before .note-at .ensures, ← c .before .lacks-if .ensures) (not-true _ (c .if1 .taken))))
 
 add-i : tie.Need-add-i Inv-loop μ-loop
 add-i c = search needs
@@ -49,8 +48,8 @@ loop-less c = search needs
 
 loop-again : tie.Need-loop-again Inv-loop μ-loop
 loop-again c = c .before .before .before .before .before .loop .inv
-    ∙ masked-more (c .before .before .before .before .before .before .args .t4) (c .before .before .before .before .before .loop .i) (search needs) (c .before .before .before .before .loop-test .taken) _ _
-    (sym (c .before .lacks-if .ensures ∙ ap (λ note. either (not (lowest (c .before .before .before .before .before .loop .rest))) (not (contains note (c .before .before .before .before .before .before .args .digit)))) (c .before .before .note-at .ensures ∙ ap (at (c .before .before .before .before .before .before .args .notes .now)) (c .before .before .before .wide .ensures .0))) ∙ not-false _ (c .if1 .left))
+    ∙ masked-more (c .before .before .before .before .before .before .args .t4) (c .before .before .before .before .before .loop .i) (search needs) (c .before .before .before .before .loop-test .taken) (λ peer. not (contains (at (c .before .before .before .before .before .before .args .notes .now) peer) (c .before .before .before .before .before .before .args .digit))) (c .before .before .before .before .before .loop .rest)
+    (rw (← c .before .before .before .wide .ensures .0, ← c .before .before .note-at .ensures, ← c .before .lacks-if .ensures) (not-false _ (c .if1 .left)))
 
 returns-2 : tie.Need-returns-2 Inv-loop μ-loop
 returns-2 c = sym (c .before .loop .inv ∙ masked-end (c .before .before .args .t4) (c .before .loop .i) (search needs) (c .loop-test .left) _ _)
