@@ -1,13 +1,17 @@
 -- A recorded move taken back and performed again by parts: the givens stay, the digits and the status come from the digits and the status, the notes from the notes.
--- And a mask of 0, which names no peer.
+-- And a mask of 0, which speaks of no peer: where a slot's is 0, twenty zeros serve as well as the peers.
 -- Assumes nothing.
-use Prim.Native.Nat.{ℕ}
-use mathlib.Core.Path.{_≡_, refl}
-use mathlib.Core.Bool.{Bool, true, false}
+use Prim.Native.Nat.{ℕ, _+_, _<_}
+use mathlib.Core.Path.{_≡_, refl, sym, ap, _∙_}
+use mathlib.Core.Bool.{Bool, true, false, not}
 use mathlib.Core.List.{List, [], _∷_}
 use lib.Dec.{eqb}
+use lib.ListN.{replicate}
+use borrow.Author.Tests.{eqb-true, lt-leb}
 use Rattle.sudoku.specs.Tests.{pick, both, either}
-use Rattle.sudoku.specs.Grid.{cellOf}
+use Rattle.sudoku.specs.Grid.{cellOf, peersOf}
+use Rattle.sudoku.proofs.Walks.{by-test, pick-false}
+use Rattle.note.specs.Note.{contains}
 use Rattle.journal.specs.declared.DigitChange.{DigitChange}
 use Rattle.journal.specs.declared.DigitChange.the-variants.{Put, None}
 use Rattle.journal.specs.declared.Move.{Move}
@@ -16,7 +20,13 @@ use Rattle.journal.specs.declared.Slot.{Slot}
 use Rattle.journal.specs.State.{State, withNotes, putDigit, lowest, writeMasked, strikeMasked, everyMasked, perform, performAgain, takeBack, digitAt, noteAt, standsAsLeft, standsAsFound}
 use Rattle.journal.specs.Slots.{moveOf, digitChange}
 use Rattle.play.specs.Parts.{parts}
-use Rattle.back.specs.Halves.{digitBack, digitAgain, marksBack, marksAgain}
+use Rattle.back.specs.Halves.{digitBack, digitAgain, nextNumber, struckCells, marksBack, marksAgain, leftBy, foundBy}
+
+-- ---- the next move to redo
+
+pub next-standing : (made standing : ℕ) → standing < made → nextNumber made standing ≡ standing + 1
+unfolding nextNumber
+next-standing made standing h = pick-false _ _ _ (lt-leb _ _ h)
 
 -- ---- a mask of 0
 
@@ -35,6 +45,27 @@ unfolding everyMasked lowest both either
 every-none f [] = refl
 every-none f (cell ∷ cells) = every-none f cells
 
+-- a walk by a slot's mask over the cells it speaks of is the walk over the peers
+module _ (slot : Slot) where
+  by-struck : {A : Type 0} (walk : ℕ → List ℕ → A) (none : A) → ((cells : List ℕ) → walk 0 cells ≡ none)
+      → walk (slot .struck) (struckCells slot) ≡ walk (slot .struck) (peersOf (cellOf (slot .row) (slot .column)))
+  unfolding struckCells
+  by-struck walk none h =
+      let ps = peersOf (cellOf (slot .row) (slot .column)) in
+      let cells = pick (eqb (slot .struck) 0) (replicate 20 0) ps in
+      by-test (eqb (slot .struck) 0)
+      (λ t. ap (λ (n : ℕ). walk n cells) (eqb-true _ _ t) ∙ h cells ∙ sym (ap (λ (n : ℕ). walk n ps) (eqb-true _ _ t) ∙ h ps))
+      (λ f. ap (walk (slot .struck)) (pick-false _ _ _ f))
+
+  write-struck : (notes : List ℕ) (d : ℕ) → writeMasked notes d (slot .struck) (struckCells slot) ≡ writeMasked notes d (slot .struck) (peersOf (cellOf (slot .row) (slot .column)))
+  write-struck notes d = by-struck (λ mask cells. writeMasked notes d mask cells) notes (write-none notes d)
+
+  strike-struck : (notes : List ℕ) (d : ℕ) → strikeMasked notes d (slot .struck) (struckCells slot) ≡ strikeMasked notes d (slot .struck) (peersOf (cellOf (slot .row) (slot .column)))
+  strike-struck notes d = by-struck (λ mask cells. strikeMasked notes d mask cells) notes (strike-none notes d)
+
+  every-struck : (f : ℕ → Bool) → everyMasked f (slot .struck) (struckCells slot) ≡ everyMasked f (slot .struck) (peersOf (cellOf (slot .row) (slot .column)))
+  every-struck f = by-struck (λ mask cells. everyMasked f mask cells) true (every-none f)
+
 -- ---- the digit alone, and the marks alone
 
 pub digit-again-parts : (s : State) (cell : ℕ) (change : DigitChange)
@@ -44,71 +75,94 @@ unfolding digitAgain putDigit
 digit-again-parts s cell (Put before after) = refl
 digit-again-parts s cell None = refl
 
-pub marks-again-parts : (s : State) (m : Move) (mask : ℕ) → parts (s .given) (s .digits) (marksAgain (parts [] [] (s .notes) false) m mask .notes) (s .solved) ≡ marksAgain s m mask
+pub marks-again-parts : (s : State) (m : Move) (mask : ℕ) (cells : List ℕ)
+    → parts (s .given) (s .digits) (marksAgain (parts [] [] (s .notes) false) m mask cells .notes) (s .solved) ≡ marksAgain s m mask cells
 unfolding marksAgain withNotes
-marks-again-parts s (Place row column digit) mask = refl
-marks-again-parts s (Erase row column) mask = refl
-marks-again-parts s (WriteMark row column digit) mask = refl
-marks-again-parts s (StrikeMark row column digit) mask = refl
-
--- ---- what stands, asked of the digits and the notes alone
-
-pub left-parts : (s : State) (m : Move) (mask : ℕ) → standsAsLeft (parts [] (s .digits) (s .notes) false) m mask ≡ standsAsLeft s m mask
-unfolding standsAsLeft digitAt noteAt
-left-parts s (Place row column digit) mask = refl
-left-parts s (Erase row column) mask = refl
-left-parts s (WriteMark row column digit) mask = refl
-left-parts s (StrikeMark row column digit) mask = refl
-
-pub found-parts : (s : State) (m : Move) (before mask : ℕ) → standsAsFound (parts [] (s .digits) (s .notes) false) m before mask ≡ standsAsFound s m before mask
-unfolding standsAsFound digitAt noteAt
-found-parts s (Place row column digit) before mask = refl
-found-parts s (Erase row column) before mask = refl
-found-parts s (WriteMark row column digit) before mask = refl
-found-parts s (StrikeMark row column digit) before mask = refl
+marks-again-parts s (Place row column digit) mask cells = refl
+marks-again-parts s (Erase row column) mask cells = refl
+marks-again-parts s (WriteMark row column digit) mask cells = refl
+marks-again-parts s (StrikeMark row column digit) mask cells = refl
 
 -- ---- the whole, by what the tests of the kind byte say: a place, an erase, a mark written
 
-module _ (s : State) (row column digit before mask : ℕ) where
-  back-by : (p e w : Bool)
-      → parts (s .given)
-      (digitBack (parts [] (s .digits) [] (s .solved)) (cellOf row column) (pick p (Put before digit) (pick e (Put before 0) None)) .digits)
-      (marksBack (parts [] [] (s .notes) false) (pick p (Place row column digit) (pick e (Erase row column) (pick w (WriteMark row column digit) (StrikeMark row column digit)))) mask .notes)
+module _ (s : State) (row column digit before mask : ℕ) (cells : List ℕ) where
+  back-by : writeMasked (s .notes) digit mask cells ≡ writeMasked (s .notes) digit mask (peersOf (cellOf row column)) → (p e w : Bool)
+      → parts (s .given) (digitBack (parts [] (s .digits) [] (s .solved)) (cellOf row column) (pick p (Put before digit) (pick e (Put before 0) None)) .digits)
+      (marksBack (parts [] [] (s .notes) false) (pick p (Place row column digit) (pick e (Erase row column) (pick w (WriteMark row column digit) (StrikeMark row column digit)))) mask cells .notes)
       (digitBack (parts [] (s .digits) [] (s .solved)) (cellOf row column) (pick p (Put before digit) (pick e (Put before 0) None)) .solved)
       ≡ takeBack s (pick p (Place row column digit) (pick e (Erase row column) (pick w (WriteMark row column digit) (StrikeMark row column digit)))) before mask
   unfolding pick marksBack digitBack takeBack withNotes putDigit
-  back-by true e w = refl
-  back-by false true w = refl
-  back-by false false true = refl
-  back-by false false false = refl
+  back-by h true e w = ap (λ (notes : List ℕ). parts (s .given) (putDigit (parts [] (s .digits) [] (s .solved)) (cellOf row column) before .digits) notes (putDigit (parts [] (s .digits) [] (s .solved)) (cellOf row column) before .solved)) h
+  back-by h false true w = refl
+  back-by h false false true = refl
+  back-by h false false false = refl
 
-  again-by : (p e w : Bool)
-      → parts (s .given)
-      (digitAgain (parts [] (s .digits) [] (s .solved)) (cellOf row column) (pick p (Put before digit) (pick e (Put before 0) None)) .digits)
-      (marksAgain (parts [] [] (s .notes) false) (pick p (Place row column digit) (pick e (Erase row column) (pick w (WriteMark row column digit) (StrikeMark row column digit)))) mask .notes)
+  again-by : strikeMasked (s .notes) digit mask cells ≡ strikeMasked (s .notes) digit mask (peersOf (cellOf row column)) → (p e w : Bool)
+      → parts (s .given) (digitAgain (parts [] (s .digits) [] (s .solved)) (cellOf row column) (pick p (Put before digit) (pick e (Put before 0) None)) .digits)
+      (marksAgain (parts [] [] (s .notes) false) (pick p (Place row column digit) (pick e (Erase row column) (pick w (WriteMark row column digit) (StrikeMark row column digit)))) mask cells .notes)
       (digitAgain (parts [] (s .digits) [] (s .solved)) (cellOf row column) (pick p (Put before digit) (pick e (Put before 0) None)) .solved)
       ≡ performAgain s (pick p (Place row column digit) (pick e (Erase row column) (pick w (WriteMark row column digit) (StrikeMark row column digit)))) mask
   unfolding pick marksAgain digitAgain performAgain perform withNotes putDigit
-  again-by true e w = refl
-  again-by false true w = refl
-  again-by false false true = refl
-  again-by false false false = refl
+  again-by h true e w = ap (λ (notes : List ℕ). parts (s .given) (putDigit (parts [] (s .digits) [] (s .solved)) (cellOf row column) digit .digits) notes (putDigit (parts [] (s .digits) [] (s .solved)) (cellOf row column) digit .solved)) h
+  again-by h false true w = refl
+  again-by h false false true = refl
+  again-by h false false false = refl
+
+  left-by : everyMasked (λ peer. not (contains (noteAt s peer) digit)) mask cells ≡ everyMasked (λ peer. not (contains (noteAt s peer) digit)) mask (peersOf (cellOf row column)) → (p e w : Bool)
+      → leftBy (parts [] (s .digits) (s .notes) false) (pick p (Place row column digit) (pick e (Erase row column) (pick w (WriteMark row column digit) (StrikeMark row column digit)))) mask cells ≡ standsAsLeft s (pick p (Place row column digit) (pick e (Erase row column) (pick w (WriteMark row column digit) (StrikeMark row column digit)))) mask
+  unfolding pick leftBy standsAsLeft digitAt noteAt
+  left-by h true e w = ap (both (eqb (digitAt s (cellOf row column)) digit)) h
+  left-by h false true w = refl
+  left-by h false false true = refl
+  left-by h false false false = refl
+
+  found-by : everyMasked (λ peer. contains (noteAt s peer) digit) mask cells ≡ everyMasked (λ peer. contains (noteAt s peer) digit) mask (peersOf (cellOf row column)) → (p e w : Bool)
+      → foundBy (parts [] (s .digits) (s .notes) false) (pick p (Place row column digit) (pick e (Erase row column) (pick w (WriteMark row column digit) (StrikeMark row column digit)))) before mask cells ≡ standsAsFound s (pick p (Place row column digit) (pick e (Erase row column) (pick w (WriteMark row column digit) (StrikeMark row column digit)))) before mask
+  unfolding pick foundBy standsAsFound digitAt noteAt
+  found-by h true e w = ap (both (eqb (digitAt s (cellOf row column)) before)) h
+  found-by h false true w = refl
+  found-by h false false true = refl
+  found-by h false false false = refl
 
 module _ (s : State) (slot : Slot) where
   pub back-parts : parts (s .given)
       (digitBack (parts [] (s .digits) [] (s .solved)) (cellOf (slot .row) (slot .column)) (digitChange slot) .digits)
-      (marksBack (parts [] [] (s .notes) false) (moveOf slot) (slot .struck) .notes)
+      (marksBack (parts [] [] (s .notes) false) (moveOf slot) (slot .struck) (struckCells slot) .notes)
       (digitBack (parts [] (s .digits) [] (s .solved)) (cellOf (slot .row) (slot .column)) (digitChange slot) .solved)
       ≡ takeBack s (moveOf slot) (slot .before) (slot .struck)
   unfolding digitChange moveOf
   back-parts =
-      back-by s (slot .row) (slot .column) (slot .digit) (slot .before) (slot .struck) (eqb (slot .kind) 2) (eqb (slot .kind) 3) (eqb (slot .kind) 4)
+      back-by s (slot .row) (slot .column) (slot .digit) (slot .before) (slot .struck) (struckCells slot) (write-struck slot (s .notes) (slot .digit))
+      (eqb (slot .kind) 2) (eqb (slot .kind) 3) (eqb (slot .kind) 4)
 
   pub again-parts : parts (s .given)
       (digitAgain (parts [] (s .digits) [] (s .solved)) (cellOf (slot .row) (slot .column)) (digitChange slot) .digits)
-      (marksAgain (parts [] [] (s .notes) false) (moveOf slot) (slot .struck) .notes)
+      (marksAgain (parts [] [] (s .notes) false) (moveOf slot) (slot .struck) (struckCells slot) .notes)
       (digitAgain (parts [] (s .digits) [] (s .solved)) (cellOf (slot .row) (slot .column)) (digitChange slot) .solved)
       ≡ performAgain s (moveOf slot) (slot .struck)
   unfolding digitChange moveOf
   again-parts =
-      again-by s (slot .row) (slot .column) (slot .digit) (slot .before) (slot .struck) (eqb (slot .kind) 2) (eqb (slot .kind) 3) (eqb (slot .kind) 4)
+      again-by s (slot .row) (slot .column) (slot .digit) (slot .before) (slot .struck) (struckCells slot) (strike-struck slot (s .notes) (slot .digit))
+      (eqb (slot .kind) 2) (eqb (slot .kind) 3) (eqb (slot .kind) 4)
+
+  -- the same one after the other: the digit, then the marks
+  pub again-halves : marksAgain (digitAgain s (cellOf (slot .row) (slot .column)) (digitChange slot)) (moveOf slot) (slot .struck) (struckCells slot)
+      ≡ performAgain s (moveOf slot) (slot .struck)
+  again-halves =
+      let d : State = digitAgain (parts [] (s .digits) [] (s .solved)) (cellOf (slot .row) (slot .column)) (digitChange slot) in
+      ap (λ (t : State). marksAgain t (moveOf slot) (slot .struck) (struckCells slot)) (sym (digit-again-parts s (cellOf (slot .row) (slot .column)) (digitChange slot)))
+      ∙ sym (marks-again-parts (parts (s .given) (d .digits) (s .notes) (d .solved)) (moveOf slot) (slot .struck) (struckCells slot))
+      ∙ again-parts
+
+  -- what stands, asked of the digits and the notes alone
+  pub left-parts : leftBy (parts [] (s .digits) (s .notes) false) (moveOf slot) (slot .struck) (struckCells slot) ≡ standsAsLeft s (moveOf slot) (slot .struck)
+  unfolding moveOf
+  left-parts =
+      left-by s (slot .row) (slot .column) (slot .digit) (slot .before) (slot .struck) (struckCells slot) (every-struck slot (λ peer. not (contains (noteAt s peer) (slot .digit))))
+      (eqb (slot .kind) 2) (eqb (slot .kind) 3) (eqb (slot .kind) 4)
+
+  pub found-parts : foundBy (parts [] (s .digits) (s .notes) false) (moveOf slot) (slot .before) (slot .struck) (struckCells slot) ≡ standsAsFound s (moveOf slot) (slot .before) (slot .struck)
+  unfolding moveOf
+  found-parts =
+      found-by s (slot .row) (slot .column) (slot .digit) (slot .before) (slot .struck) (struckCells slot) (every-struck slot (λ peer. contains (noteAt s peer) (slot .digit)))
+      (eqb (slot .kind) 2) (eqb (slot .kind) 3) (eqb (slot .kind) 4)

@@ -1,13 +1,22 @@
 -- A recorded move taken back and performed again in two steps, as the code goes: first the digit of its cell, then the marks.
--- proofs/Halves shows that the two steps are the whole of specs/State.
+-- The peers that a slot's mask speaks of are handed on: proofs/Halves and proofs/Parts show that the two steps with these are the whole of specs/State.
 -- Assumes nothing.
-use Prim.Native.Nat.{ℕ}
+use Prim.Native.Nat.{ℕ, _+_}
+use mathlib.Core.Bool.{Bool, not}
+use mathlib.Core.List.{List}
+use lib.Dec.{eqb, leb}
+use lib.ListN.{replicate}
+use Rattle.sudoku.specs.Tests.{pick, both}
 use Rattle.sudoku.specs.Grid.{cellOf, peersOf}
+use Rattle.note.specs.Note.{contains}
 use Rattle.journal.specs.declared.DigitChange.{DigitChange}
 use Rattle.journal.specs.declared.DigitChange.the-variants.{Put, None}
 use Rattle.journal.specs.declared.Move.{Move}
 use Rattle.journal.specs.declared.Move.the-variants.{Place, Erase, WriteMark, StrikeMark}
-use Rattle.journal.specs.State.{State, withNotes, putDigit, writeAt, strikeAt, writeMasked, strikeMasked}
+use Rattle.journal.specs.declared.Slot.{Slot}
+use Rattle.journal.specs.State.{State, withNotes, putDigit, digitAt, noteAt, writeAt, strikeAt, writeMasked, strikeMasked, everyMasked}
+use Rattle.puzzle.specs.declared.Refusal.{Refusal}
+use Rattle.back.specs.declared.Asked.{Asked}
 
 -- the digit before, put back at a cell; a move that changes no digit changes nothing here
 unfoldable pub digitBack : State → ℕ → DigitChange → State
@@ -19,16 +28,44 @@ unfoldable pub digitAgain : State → ℕ → DigitChange → State
 digitAgain s cell (Put before after) = putDigit s cell after
 digitAgain s cell None = s
 
--- exactly the marks that were struck, or the mark changed, given back
-unfoldable pub marksBack : State → Move → ℕ → State
-marksBack s (Place row column digit) mask = withNotes s (writeMasked (s .notes) digit mask (peersOf (cellOf row column)))
-marksBack s (Erase row column) mask = s
-marksBack s (WriteMark row column digit) mask = withNotes s (strikeAt (s .notes) (cellOf row column) digit)
-marksBack s (StrikeMark row column digit) mask = withNotes s (writeAt (s .notes) (cellOf row column) digit)
+-- the number of the next move to redo, and 0 where there is none
+unfoldable pub nextNumber : ℕ → ℕ → ℕ
+nextNumber made standing = pick (leb made standing) 0 (standing + 1)
 
--- exactly the marks in the mask struck again, or the mark changed again
-unfoldable pub marksAgain : State → Move → ℕ → State
-marksAgain s (Place row column digit) mask = withNotes s (strikeMasked (s .notes) digit mask (peersOf (cellOf row column)))
-marksAgain s (Erase row column) mask = s
-marksAgain s (WriteMark row column digit) mask = withNotes s (writeAt (s .notes) (cellOf row column) digit)
-marksAgain s (StrikeMark row column digit) mask = withNotes s (strikeAt (s .notes) (cellOf row column) digit)
+-- the peers that a slot's mask speaks of; twenty zeros where it is 0, since then it speaks of none
+unfoldable pub struckCells : Slot → List ℕ
+struckCells slot = pick (eqb (slot .struck) 0) (replicate 20 0) (peersOf (cellOf (slot .row) (slot .column)))
+
+-- exactly the marks that were struck from the cells of the mask, or the mark changed, given back
+unfoldable pub marksBack : State → Move → ℕ → List ℕ → State
+marksBack s (Place row column digit) mask cells = withNotes s (writeMasked (s .notes) digit mask cells)
+marksBack s (Erase row column) mask cells = s
+marksBack s (WriteMark row column digit) mask cells = withNotes s (strikeAt (s .notes) (cellOf row column) digit)
+marksBack s (StrikeMark row column digit) mask cells = withNotes s (writeAt (s .notes) (cellOf row column) digit)
+
+-- exactly the marks of the cells in the mask struck again, or the mark changed again
+unfoldable pub marksAgain : State → Move → ℕ → List ℕ → State
+marksAgain s (Place row column digit) mask cells = withNotes s (strikeMasked (s .notes) digit mask cells)
+marksAgain s (Erase row column) mask cells = s
+marksAgain s (WriteMark row column digit) mask cells = withNotes s (writeAt (s .notes) (cellOf row column) digit)
+marksAgain s (StrikeMark row column digit) mask cells = withNotes s (strikeAt (s .notes) (cellOf row column) digit)
+
+-- the digit and the marks that a recorded move changed stand as the move left them
+unfoldable pub leftBy : State → Move → ℕ → List ℕ → Bool
+leftBy s (Place row column digit) mask cells =
+    both (eqb (digitAt s (cellOf row column)) digit) (everyMasked (λ peer. not (contains (noteAt s peer) digit)) mask cells)
+leftBy s (Erase row column) mask cells = eqb (digitAt s (cellOf row column)) 0
+leftBy s (WriteMark row column digit) mask cells = contains (noteAt s (cellOf row column)) digit
+leftBy s (StrikeMark row column digit) mask cells = not (contains (noteAt s (cellOf row column)) digit)
+
+-- they stand as the move found them
+unfoldable pub foundBy : State → Move → ℕ → ℕ → List ℕ → Bool
+foundBy s (Place row column digit) before mask cells =
+    both (eqb (digitAt s (cellOf row column)) before) (everyMasked (λ peer. contains (noteAt s peer) digit) mask cells)
+foundBy s (Erase row column) before mask cells = eqb (digitAt s (cellOf row column)) before
+foundBy s (WriteMark row column digit) before mask cells = not (contains (noteAt s (cellOf row column)) digit)
+foundBy s (StrikeMark row column digit) before mask cells = contains (noteAt s (cellOf row column)) digit
+
+-- what a call found that takes a move back or makes it again: why it is refused, and the slot concerned with the peers of its mask
+unfoldable pub asked : Refusal → Slot → Asked
+asked refusal slot = record { refusal = refusal; slot = slot; cells = struckCells slot }

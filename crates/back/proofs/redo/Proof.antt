@@ -1,47 +1,40 @@
--- `back::redo` meets its contract.
+-- `back::redo` meets its contract. Where it is accepted there is a next move.
 -- Assumes nothing.
 use mathlib.Core.Path.{sym, ap, _∙_}
-use native.Mathlib.Omega.{arith}
-use Rattle.puzzle.specs.declared.Refusal.{Refusal}
 use Rattle.play.specs.Play.{slotRefusal}
 use Rattle.play.proofs.Accepted.{redo-refused, redo-made, redo-below}
+use Rattle.back.specs.declared.Asked.{Asked}
+use Rattle.back.specs.Halves.{asked}
+use Rattle.back.proofs.Parts.{next-standing}
 use borrow.Author.Needs.{needs}
 use Rattle.back.proofs.redo.Statement.{statement}
 use Rattle.back.proofs.redo.Tie as tie
 
-redo-refusal-requires : tie.Need-redo-refusal-requires
-redo-refusal-requires c κs = search needs
+ask-redo-of-requires : tie.Need-ask-redo-of-requires
+ask-redo-of-requires c κs = search needs
 
 returns : tie.Need-returns
-unfolding slotRefusal
+unfolding slotRefusal asked
 returns c =
-    let a = c .before .before .before .args in
-    let n = ap (λ (r : Refusal). r .number) (c .before .redo-refusal .ensures) in
-    rw (c .before .redo-refusal .ensures) (redo-refused (a .board) (a .journal .now) (λ p. c .if1 .taken (n ∙ p)))
-
-add-slot-at : tie.Need-add-slot-at
-unfolding slotRefusal
-add-slot-at c =
-    let a = c .before .before .before .args in
-    let n = ap (λ (r : Refusal). r .number) (c .before .redo-refusal .ensures) in
-    let k = redo-below (a .board) (a .journal .now) (sym n ∙ c .if1 .left) in
-    omega (arith, k .0, k .1)
-
-slot-at-requires : tie.Need-slot-at-requires
-slot-at-requires c κs = search needs
+    let a = c .before .before .before .before .args in
+    let n = ap (λ (x : Asked). x .refusal .number) (c .before .before .ask-redo-of .ensures) in
+    rw (c .before .before .ask-redo-of .ensures) (redo-refused (a .board) (a .journal .now) (λ p. c .if1 .taken (n ∙ p)))
 
 redone-requires : tie.Need-redone-requires
-redone-requires c κs = search needs
+unfolding asked
+redone-requires c κs = rw (c .before .before .before .ask-redo-of .ensures)
 
 accepted-requires : tie.Need-accepted-requires
 accepted-requires c κs = search needs
 
 returns-2 : tie.Need-returns-2
-unfolding slotRefusal
+unfolding slotRefusal asked
 returns-2 c =
-    let a = c .before .before .before .before .before .before .args in
-    let n = ap (λ (r : Refusal). r .number) (c .before .before .before .before .redo-refusal .ensures) in
-    rw (c .accepted .ensures, c .before .redone .ensures, c .before .before .slot-at .ensures) (redo-made (a .board) (a .journal .now) (sym n ∙ c .before .before .before .if1 .left))
+    let a = c .before .before .before .before .before .before .before .args in
+    let n = ap (λ (x : Asked). x .refusal .number) (c .before .before .before .before .before .ask-redo-of .ensures) in
+    let none = sym n ∙ c .before .before .before .if1 .left in
+    rw (c .accepted .ensures, c .before .redone .ensures, c .before .before .before .before .before .ask-redo-of .ensures, next-standing (a .board .made) (a .board .standing) (redo-below (a .board) (a .journal .now) none .0))
+    (redo-made (a .board) (a .journal .now) none)
 
 pub redo-spec : {M : Type 1} → statement M
-redo-spec = tie.close (tie.spec redo-refusal-requires returns add-slot-at slot-at-requires redone-requires accepted-requires returns-2)
+redo-spec = tie.close (tie.spec ask-redo-of-requires returns redone-requires accepted-requires returns-2)

@@ -28,7 +28,7 @@ counted-requires c κs = search needs
 returns : tie.Need-returns
 unfolding redone moved boardOf stateOf countsOf
 returns c = let a = c .before .before .before .before .before .before .before .args in
-    rw (c .counted .ensures, c .before .take-again .ensures, c .before .before .move-of .ensures, c .before .before .before .before .put-again .ensures .0, c .before .before .before .before .put-again .ensures .1, c .before .before .before .before .before .before .after-retake .ensures)
+    rw (c .counted .ensures, c .before .take-again .ensures, c .before .before .before .before .before .before .before .pre, c .before .before .move-of .ensures, c .before .before .before .before .put-again .ensures .0, c .before .before .before .before .put-again .ensures .1, c .before .before .before .before .before .before .after-retake .ensures)
     (ap (λ (s : State). moved (a .board) s (retaken (countsOf (a .board)))) (again-parts (stateOf (a .board)) (a .slot)))
 
 pub redone-spec : {M : Type 1} → statement M

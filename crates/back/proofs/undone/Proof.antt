@@ -28,7 +28,7 @@ counted-requires c κs = search needs
 returns : tie.Need-returns
 unfolding undone moved boardOf stateOf countsOf
 returns c = let a = c .before .before .before .before .before .before .before .args in
-    rw (c .counted .ensures, c .before .give-back .ensures, c .before .before .move-of .ensures, c .before .before .before .before .put-back .ensures .0, c .before .before .before .before .put-back .ensures .1, c .before .before .before .before .before .before .after-take-back .ensures)
+    rw (c .counted .ensures, c .before .give-back .ensures, c .before .before .before .before .before .before .before .pre, c .before .before .move-of .ensures, c .before .before .before .before .put-back .ensures .0, c .before .before .before .before .put-back .ensures .1, c .before .before .before .before .before .before .after-take-back .ensures)
     (ap (λ (s : State). moved (a .board) s (takenBack (countsOf (a .board)))) (back-parts (stateOf (a .board)) (a .slot)))
 
 pub undone-spec : {M : Type 1} → statement M
