@@ -1,9 +1,8 @@
 // The board as it stood after slots 1 to k: its givens and empty notes, and then each slot applied as recorded. A place strikes the peers in its mask and no others.
-use back::digit_again;
-use back::marks_again;
+use back::digits::digit_again;
+use back::marks::marks_again;
 use board::Board;
 use journal::slots::is_given;
-use journal::slots::move_of;
 use journal::slots::slot_at;
 use puzzle::digit_at;
 use sudoku::CELLS;
@@ -56,7 +55,7 @@ fn with_slot(board: Board, journal: &[u8], n: usize) -> Board
 {
     let slot = slot_at(journal, n);
     let digits = digit_again(board, slot);
-    marks_again(digits, move_of(slot), slot.struck)
+    marks_again(digits, slot)
 }
 
 // The board after slots 1 to k.

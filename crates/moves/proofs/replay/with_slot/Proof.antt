@@ -2,7 +2,7 @@
 -- Assumes nothing.
 use Rattle.journal.specs.Slots.{slotAt}
 use Rattle.board.specs.Board.{stateOf, countsOf, boardOf, moved}
-use Rattle.back.proofs.Halves.{again-halves}
+use Rattle.back.proofs.Parts.{again-halves}
 use Rattle.moves.specs.Reading.{applySlot}
 use borrow.Author.Needs.{needs}
 use Rattle.moves.proofs.replay.with_slot.Statement.{statement}
@@ -14,17 +14,14 @@ slot-at-requires c κs = search needs
 digit-again-requires : tie.Need-digit-again-requires
 digit-again-requires c κs = search needs
 
-move-of-requires : tie.Need-move-of-requires
-move-of-requires c κs = search needs
-
 marks-again-requires : tie.Need-marks-again-requires
 marks-again-requires c κs = search needs
 
 returns : tie.Need-returns
 unfolding applySlot moved boardOf stateOf countsOf
-returns c = rw (c .marks-again .ensures, c .before .before .digit-again .ensures, c .before .move-of .ensures, c .before .before .before .slot-at .ensures) (again-halves (stateOf (c .before .before .before .before .before .args .board)) (slotAt (c .before .before .before .before .before .args .journal .now) (c .before .before .before .before .before .args .n)))
+returns c = rw (c .marks-again .ensures, c .before .digit-again .ensures, c .before .before .slot-at .ensures) (again-halves (stateOf (c .before .before .before .before .args .board)) (slotAt (c .before .before .before .before .args .journal .now) (c .before .before .before .before .args .n)))
 
 pub with-slot-spec : {M : Type 1} → statement M
 with-slot-spec =
     tie.close
-    (tie.spec slot-at-requires digit-again-requires move-of-requires marks-again-requires returns)
+    (tie.spec slot-at-requires digit-again-requires marks-again-requires returns)
