@@ -11,8 +11,7 @@ ghost use mathlib.Core.Path.{_≡_};
 ghost use Prim.Native.Nat.{_≤_, _-_};
 ghost use lib.Dec.{eqb};
 ghost use lib.ListN.{getD};
-ghost use mathlib.Core.Bool.{not};
-ghost use Rattle.sudoku.specs.Tests.{both, count};
+ghost use Rattle.sudoku.specs.Tests.{count};
 ghost use Rattle.sudoku.specs.Grid.{at};
 ghost use Rattle.puzzle.specs.Puzzle.{isHeld, holdsDigit, conflicts as conflictsAt, isFull, isConsistent, settled as settledBy, digitsLeft};
 
@@ -103,27 +102,18 @@ pub fn conflicts(digits: &[u8; 81], cell: usize) -> bool
     is_held(digits, digit, peers(cell))
 }
 
-// What was found so far, and a cell's digit: there is one.
-fn held_step(full: bool, digit: u8) -> bool
-    ensures { λ r. ⌜ r ≡ both full (not (eqb digit 0)) ⌝ }
-{
-    if digit == 0 {
-        return false;
-    }
-    full
-}
-
-// Whether every cell holds a digit. The loop has no early exit, so that it tests many cells at once.
+// Whether every cell holds a digit. The first empty cell answers, and until a game's last digits there is one soon.
 pub fn is_full(digits: &[u8; 81]) -> bool
     ensures { λ r. ⌜ r ≡ isFull (now (digits .entry)) ⌝ }
 {
-    let mut full = true;
     let mut cell: usize = 1;
     while cell <= CELLS {
-        full = held_step(full, digits[cell - 1]);
+        if !holds_digit(digits, cell) {
+            return false;
+        }
         cell += 1;
     }
-    full
+    true
 }
 
 // Whether no cell conflicts: no column, row or box holds a digit twice.
