@@ -36,15 +36,18 @@ ghost use Rattle.host.specs.Host.{boardIn, answered as answeredOf, judge
 pub fn play(board: HostBoard, journal: &mut [u8], m: Move) -> HostAnswer
     ensures { λ r. ⌜ (r ≡ answeredOf board (playOf (boardIn board) (now (journal .entry)) m .answer)) × (now (journal .exit) ≡ playOf (boardIn board) (now (journal .entry)) m .journal) ⌝ }
 {
-    let mut next = board;
+    let mut answer = HostAnswer {
+        refusal: accepted(),
+        board: board,
+    };
     let solved = board.solved == 1;
-    let given = flags_in(&next.given);
-    let made = made_in(&next.given, board.solved, board.made);
+    let given = flags_in(&answer.board.given);
+    let made = made_in(&answer.board.given, board.solved, board.made);
     let n = number_of_call(
-        &next.digits,
+        &answer.board.digits,
         &given,
-        &next.notes,
-        &next.solution,
+        &answer.board.notes,
+        &answer.board.solution,
         solved,
         made,
         board.standing,
@@ -53,26 +56,21 @@ pub fn play(board: HostBoard, journal: &mut [u8], m: Move) -> HostAnswer
         m,
     );
     if n != 0 {
-        return HostAnswer {
-            refusal: refusal(n, 0, 0),
-            board: board,
-        };
+        answer.refusal = refusal(n, 0, 0);
+        return answer;
     }
-    let slot = slot_of(&next.digits, &next.notes, m);
+    let slot = slot_of(&answer.board.digits, &answer.board.notes, m);
     write_slot(journal, board.standing, slot);
     let counts = after_record(Counts {
         made: made,
         standing: board.standing,
     });
-    let status = perform_digit(&mut next.digits, solved, m);
-    perform_notes(&mut next.notes, m);
-    next.solved = flag_of(status);
-    next.made = counts.made;
-    next.standing = counts.standing;
-    HostAnswer {
-        refusal: accepted(),
-        board: next,
-    }
+    let status = perform_digit(&mut answer.board.digits, solved, m);
+    perform_notes(&mut answer.board.notes, m);
+    answer.board.solved = flag_of(status);
+    answer.board.made = counts.made;
+    answer.board.standing = counts.standing;
+    answer
 }
 
 // Takes the latest standing move back.
