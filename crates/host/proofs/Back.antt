@@ -19,7 +19,7 @@ use Rattle.board.specs.Open.{answer}
 use Rattle.play.specs.Parts.{parts}
 use Rattle.play.specs.Play.{undoTests, undone, redoTests, redone}
 use Rattle.play.proofs.Accepted.{lent-passed}
-use Rattle.back.specs.Halves.{digitBack, digitAgain, marksBack, marksAgain}
+use Rattle.back.specs.Halves.{digitBack, digitAgain, struckCells, marksBack, marksAgain}
 use Rattle.back.proofs.Parts.{back-parts, again-parts}
 use Rattle.host.specs.declared.HostBoard.{HostBoard}
 use Rattle.host.specs.declared.HostAnswer.{HostAnswer}
@@ -43,7 +43,7 @@ module _ (h : HostBoard) (slot : Slot) (f : flagsOf (flagsIn (h .given)) ≡ h .
         board = record {
           digits = digitBack (parts [] (h .digits) [] (eqb (h .solved) 1)) (cellOf (slot .row) (slot .column)) (digitChange slot) .digits;
           given = h .given;
-          notes = marksBack (parts [] [] (h .notes) false) (moveOf slot) (slot .struck) .notes;
+          notes = marksBack (parts [] [] (h .notes) false) (moveOf slot) (slot .struck) (struckCells slot) .notes;
           solution = h .solution;
           solved = bit (digitBack (parts [] (h .digits) [] (eqb (h .solved) 1)) (cellOf (slot .row) (slot .column)) (digitChange slot) .solved);
           made = takenBack (counts (madeIn h) (h .standing)) .made;
@@ -65,7 +65,7 @@ module _ (h : HostBoard) (slot : Slot) (f : flagsOf (flagsIn (h .given)) ≡ h .
         board = record {
           digits = digitAgain (parts [] (h .digits) [] (eqb (h .solved) 1)) (cellOf (slot .row) (slot .column)) (digitChange slot) .digits;
           given = h .given;
-          notes = marksAgain (parts [] [] (h .notes) false) (moveOf slot) (slot .struck) .notes;
+          notes = marksAgain (parts [] [] (h .notes) false) (moveOf slot) (slot .struck) (struckCells slot) .notes;
           solution = h .solution;
           solved = bit (digitAgain (parts [] (h .digits) [] (eqb (h .solved) 1)) (cellOf (slot .row) (slot .column)) (digitChange slot) .solved);
           made = retaken (counts (madeIn h) (h .standing)) .made;

@@ -7,16 +7,15 @@ use crate::flag_of;
 use crate::flags_in;
 use crate::judged;
 use crate::made_in;
-use back::give_back;
-use back::put_again;
-use back::put_back;
-use back::refusal_of_redo;
-use back::refusal_of_undo;
-use back::take_again;
+use back::asking::ask_redo;
+use back::asking::ask_undo;
+use back::digits::put_again;
+use back::digits::put_back;
+use back::marks::give_back;
+use back::marks::take_again;
 use journal::Counts;
 use journal::Move;
 use journal::slots::move_of;
-use journal::slots::slot_at;
 use journal::slots::write_slot;
 use journal::steps::after_record;
 use journal::steps::after_retake;
@@ -77,82 +76,82 @@ pub fn play(board: HostBoard, journal: &mut [u8], m: Move) -> HostAnswer
 pub fn undo(board: HostBoard, journal: &[u8]) -> HostAnswer
     ensures { λ r. ⌜ r ≡ answeredOf board (undoOf (boardIn board) (now (journal .entry))) ⌝ }
 {
-    let mut next = board;
+    let mut answer = HostAnswer {
+        refusal: accepted(),
+        board: board,
+    };
     let solved = board.solved == 1;
-    let given = flags_in(&next.given);
-    let made = made_in(&next.given, board.solved, board.made);
-    let refused = refusal_of_undo(
-        &next.digits,
+    let given = flags_in(&answer.board.given);
+    let made = made_in(&answer.board.given, board.solved, board.made);
+    let asked = ask_undo(
+        &answer.board.digits,
         &given,
-        &next.notes,
-        &next.solution,
+        &answer.board.notes,
+        &answer.board.solution,
         solved,
         made,
         board.standing,
         board.checks,
         journal,
     );
+    let refused = asked.refusal;
     if refused.number != 0 {
-        return HostAnswer {
-            refusal: refused,
-            board: board,
-        };
+        answer.refusal = refused;
+        return answer;
     }
-    let slot = slot_at(journal, board.standing);
+    let slot = asked.slot;
+    let cells = asked.cells;
     let counts = after_take_back(Counts {
         made: made,
         standing: board.standing,
     });
-    let status = put_back(&mut next.digits, solved, slot);
-    give_back(&mut next.notes, move_of(slot), slot.struck);
-    next.solved = flag_of(status);
-    next.made = counts.made;
-    next.standing = counts.standing;
-    HostAnswer {
-        refusal: accepted(),
-        board: next,
-    }
+    let status = put_back(&mut answer.board.digits, solved, slot);
+    give_back(&mut answer.board.notes, move_of(slot), slot.struck, cells);
+    answer.board.solved = flag_of(status);
+    answer.board.made = counts.made;
+    answer.board.standing = counts.standing;
+    answer
 }
 
 // Makes the next undone move again.
 pub fn redo(board: HostBoard, journal: &[u8]) -> HostAnswer
     ensures { λ r. ⌜ r ≡ answeredOf board (redoOf (boardIn board) (now (journal .entry))) ⌝ }
 {
-    let mut next = board;
+    let mut answer = HostAnswer {
+        refusal: accepted(),
+        board: board,
+    };
     let solved = board.solved == 1;
-    let given = flags_in(&next.given);
-    let made = made_in(&next.given, board.solved, board.made);
-    let refused = refusal_of_redo(
-        &next.digits,
+    let given = flags_in(&answer.board.given);
+    let made = made_in(&answer.board.given, board.solved, board.made);
+    let asked = ask_redo(
+        &answer.board.digits,
         &given,
-        &next.notes,
-        &next.solution,
+        &answer.board.notes,
+        &answer.board.solution,
         solved,
         made,
         board.standing,
         board.checks,
         journal,
     );
+    let refused = asked.refusal;
     if refused.number != 0 {
-        return HostAnswer {
-            refusal: refused,
-            board: board,
-        };
+        answer.refusal = refused;
+        return answer;
     }
-    let slot = slot_at(journal, board.standing + 1);
+    let slot = asked.slot;
+    let cells = asked.cells;
     let counts = after_retake(Counts {
         made: made,
         standing: board.standing,
     });
-    let status = put_again(&mut next.digits, solved, slot);
-    take_again(&mut next.notes, move_of(slot), slot.struck);
-    next.solved = flag_of(status);
-    next.made = counts.made;
-    next.standing = counts.standing;
-    HostAnswer {
-        refusal: accepted(),
-        board: next,
-    }
+    let status = put_again(&mut answer.board.digits, solved, slot);
+    take_again(&mut answer.board.notes, move_of(slot), slot.struck, cells);
+    answer.board.solved = flag_of(status);
+    answer.board.made = counts.made;
+    answer.board.standing = counts.standing;
+    answer
 }
 
 // Compares a player's digit with the solution's, and stores the check.
