@@ -1,25 +1,14 @@
--- `play::checks::store` meets its contract.
+-- `play::checks::store` meets its contract: the parts are the board's.
 -- Assumes nothing.
-use Rattle.sudoku.specs.Grid.{at}
 use Rattle.journal.specs.State.{digitAt}
-use Rattle.journal.specs.StoredChecks.{judge}
 use Rattle.board.specs.Board.{stateOf, countsOf, boardOf}
 use Rattle.play.specs.Check.{checkOn, withCheck}
 use borrow.Author.Needs.{needs}
 use Rattle.play.proofs.checks.store.Statement.{statement}
 use Rattle.play.proofs.checks.store.Tie as tie
 
-cell-of-requires : tie.Need-cell-of-requires
-cell-of-requires c κs = search needs
-
-digit-at-requires : tie.Need-digit-at-requires
-digit-at-requires c κs = search needs
-
-is-right-requires : tie.Need-is-right-requires
-is-right-requires c κs = search needs
-
-write-check-requires : tie.Need-write-check-requires
-write-check-requires c κs = search needs
+store-check-requires : tie.Need-store-check-requires
+store-check-requires c κs = search needs
 
 add-next : tie.Need-add-next
 add-next c = search needs
@@ -31,12 +20,8 @@ same-length : tie.Need-same-length
 same-length c = search needs
 
 returns : tie.Need-returns
-unfolding checkOn judge withCheck digitAt stateOf boardOf countsOf
-returns c =
-    let right = c .before .before .before .before .before .is-right .ensures in
-    let digit = c .before .before .before .before .before .before .before .before .digit-at .ensures in
-    let cell = c .before .before .before .before .before .before .before .before .before .before .before .cell-of .ensures .0 in
-    (rw (c .accepted .ensures, right, digit, cell), rw (right, digit, cell) at (c .before .before .before .write-check .ensures))
+unfolding checkOn withCheck digitAt stateOf boardOf countsOf
+returns c = (rw (c .accepted .ensures, c .before .before .before .store-check .ensures .0), c .before .before .before .store-check .ensures .1)
 
 pub store-spec : {M : Type 1} → statement M
-store-spec = tie.close (tie.spec cell-of-requires digit-at-requires is-right-requires write-check-requires add-next accepted-requires same-length returns)
+store-spec = tie.close (tie.spec store-check-requires add-next accepted-requires same-length returns)
