@@ -24,7 +24,7 @@ use Rattle.host.specs.declared.HostBoard.{HostBoard}
 use Rattle.host.specs.Host.{flagValue, hasFlags, flagsIn, madeIn, boardIn, flagsOf, hostOf, opened, answered}
 
 -- a flag that is 0 or 1 is read and written back as it stands
-flag-kept : (x : ℕ) → x ≤ 1 → bit (eqb x 1) ≡ x
+pub flag-kept : (x : ℕ) → x ≤ 1 → bit (eqb x 1) ≡ x
 unfolding bit
 flag-kept zero h = refl
 flag-kept (suc zero) h = refl
@@ -52,14 +52,17 @@ module _ (g : List ℕ) (n : length g ≡ 81) (f : every (flagValue g) 81 1 ≡ 
       ext-getD 0 (flagsOf (flagsIn g)) g (l ∙ sym n) (λ i h. kept-at i (omega (arith, l, h)))
 
 -- a board that counts no more moves than a journal holds has flags alone
-pub counted-flags : (h : HostBoard) → madeIn h ≤ maxMoves → every (flagValue (h .given)) 81 1 ≡ true
-unfolding madeIn hasFlags
-counted-flags h l =
-    both-right (leb (h .solved) 1) (every (flagValue (h .given)) 81 1)
-    (by-test (hasFlags h) (λ t. t) (λ t. absurd (too-many (madeIn h) (pick-false (hasFlags h) (h .made) (maxMoves + 1) t) l)))
+pub counted-has : (h : HostBoard) → madeIn h ≤ maxMoves → hasFlags h ≡ true
+unfolding madeIn
+counted-has h l =
+    by-test (hasFlags h) (λ t. t) (λ t. absurd (too-many (madeIn h) (pick-false (hasFlags h) (h .made) (maxMoves + 1) t) l))
   where
     too-many : (n : ℕ) → n ≡ maxMoves + 1 → n ≤ maxMoves → ⊥
     too-many n e l = omega (arith, e, l)
+
+pub counted-flags : (h : HostBoard) → madeIn h ≤ maxMoves → every (flagValue (h .given)) 81 1 ≡ true
+unfolding hasFlags
+counted-flags h l = both-right (leb (h .solved) 1) (every (flagValue (h .given)) 81 1) (counted-has h l)
 
 module _ (h : HostBoard) where
   -- a refused call hands the host's board back

@@ -1,3 +1,4 @@
 pub mod Kept
 pub mod Played
 pub mod Back
+pub mod Checked

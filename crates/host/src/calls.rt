@@ -2,10 +2,8 @@
 use crate::HostAnswer;
 use crate::HostBoard;
 use crate::HostChecked;
-use crate::board_in;
 use crate::flag_of;
 use crate::flags_in;
-use crate::judged;
 use crate::made_in;
 use back::asking::ask_redo;
 use back::asking::ask_undo;
@@ -20,6 +18,8 @@ use journal::slots::write_slot;
 use journal::steps::after_record;
 use journal::steps::after_retake;
 use journal::steps::after_take_back;
+use play::checks::number_of_check;
+use play::checks::store_check;
 use play::moves::perform_digit;
 use play::moves::perform_notes;
 use play::moves::slot_of;
@@ -158,8 +158,39 @@ pub fn redo(board: HostBoard, journal: &[u8]) -> HostAnswer
 pub fn check(board: HostBoard, checks: &mut [u8], row: u8, column: u8) -> HostChecked
     ensures { λ r. ⌜ (r ≡ judgedOf board (checkOf (boardIn board) (now (checks .entry)) row column .answer)) × (now (checks .exit) ≡ checkOf (boardIn board) (now (checks .entry)) row column .checks) ⌝ }
 {
-    judged(
-        board,
-        play::checks::check(board_in(board), checks, row, column),
-    )
+    let mut answer = HostChecked {
+        refusal: accepted(),
+        right: false,
+        board: board,
+    };
+    let given = flags_in(&answer.board.given);
+    let made = made_in(&answer.board.given, board.solved, board.made);
+    let n = number_of_check(
+        &answer.board.digits,
+        &given,
+        &answer.board.notes,
+        &answer.board.solution,
+        board.solved == 1,
+        made,
+        board.standing,
+        board.checks,
+        checks.len(),
+        row,
+        column,
+    );
+    if n != 0 {
+        answer.refusal = refusal(n, 0, 0);
+        return answer;
+    }
+    answer.right = store_check(
+        checks,
+        &answer.board.digits,
+        &answer.board.solution,
+        board.checks,
+        board.standing,
+        row,
+        column,
+    );
+    answer.board.checks = board.checks + 1;
+    answer
 }

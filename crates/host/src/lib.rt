@@ -4,7 +4,6 @@ pub mod calls;
 
 use board::Answer;
 use board::Board;
-use board::Checked;
 use journal::MAX_MOVES;
 use puzzle::Refusal;
 ghost use mathlib.Core.Path.{_≡_};
@@ -12,7 +11,7 @@ ghost use lib.Dec.{leb};
 ghost use Prim.Native.Nat.{_+_};
 ghost use Rattle.sudoku.specs.Tests.{pick, both, bit, every};
 ghost use Rattle.journal.specs.Limits.{maxMoves};
-ghost use Rattle.host.specs.Host.{flagValue, hasFlags, flagsIn, boardIn, flagsOf, hostOf, judged as judgedOf, opened as openedOf};
+ghost use Rattle.host.specs.Host.{flagValue, hasFlags, flagsIn, boardIn, flagsOf, hostOf, opened as openedOf};
 
 // A board by value, its flags as bytes.
 #[repr(C)]
@@ -170,26 +169,6 @@ pub fn host_of(board: Board) -> HostBoard
         made: board.made,
         standing: board.standing,
         checks: board.checks,
-    }
-}
-
-// What a host gets back of a check that passed `board`: after a refusal its own board, as it came.
-pub fn judged(board: HostBoard, answer: Checked) -> HostChecked
-    ensures { λ r. ⌜ r ≡ judgedOf board answer ⌝ }
-{
-    let refusal = answer.refusal;
-    if refusal.number != 0 {
-        return HostChecked {
-            refusal: refusal,
-            right: answer.right,
-            board: board,
-        };
-    }
-    let left = host_of(answer.board);
-    HostChecked {
-        refusal: refusal,
-        right: answer.right,
-        board: left,
     }
 }
 
