@@ -3,8 +3,8 @@
 -- Assumes nothing.
 use mathlib.Core.Path.{_≡_, refl, sym, ap, _∙_}
 use mathlib.Core.Logic.{_≢_}
-use mathlib.Core.Bool.{true, false, not}
-use Prim.Native.Nat.{ℕ, zero, suc, _+_, _-_, _/_, _%_, _^_, _≤_, _<_}
+use mathlib.Core.Bool.{Bool, true, false, not}
+use Prim.Native.Nat.{ℕ, zero, suc, _+_, _-_, _*_, _/_, _%_, _^_, _≤_, _<_}
 use native.Mathlib.Nat.{sub-add-cancel, div-one, zero-div, add-zero}
 use native.Mathlib.Omega.{arith}
 use lib.Dec.{eqb}
@@ -84,6 +84,42 @@ with-absent n d h =
 
 pub without-power : (n d : ℕ) → contains n d ≡ true → without n d ≡ n - powerOf d
 without-power n d h = rw (power-digit d (contains-digit n d h)) (without-there n d h)
+
+-- ---- the same by the mark's bit, without a test
+
+eqb-bit : (b : Bool) → eqb (bit b) 1 ≡ b
+unfolding bit
+eqb-bit true = refl
+eqb-bit false = refl
+
+pub bit-tests : (n d : ℕ) → eqb (bit (contains n d)) 1 ≡ contains n d
+bit-tests n d = eqb-bit (contains n d)
+
+-- a number taken no or one time
+pub times-le : (x b : ℕ) → b ≤ 1 → x * b ≤ x
+times-le x zero h = omega arith
+times-le x (suc zero) h = omega arith
+times-le x (suc (suc b)) h = absurd (omega arith)
+
+added-by : (n p : ℕ) (b : Bool) → n + p * (1 - bit b) ≡ pick b n (n + p)
+unfolding bit pick
+added-by n p true = omega arith
+added-by n p false = omega arith
+
+taken-by : (n p : ℕ) (b : Bool) → n - p * bit b ≡ pick b (n - p) n
+unfolding bit pick
+taken-by n p true = omega arith
+taken-by n p false = omega arith
+
+pub with-bit : (n d : ℕ) → n + powerOf d * (1 - bit (contains n d)) ≡ withMark n d
+with-bit n d =
+    added-by n (powerOf d) (contains n d)
+    ∙ by-test (contains n d) (λ h. pick-true _ _ _ h ∙ sym (with-there n d h)) (λ h. pick-false _ _ _ h ∙ sym (with-absent n d h))
+
+pub without-bit : (n d : ℕ) → n - powerOf d * bit (contains n d) ≡ without n d
+without-bit n d =
+    taken-by n (powerOf d) (contains n d)
+    ∙ by-test (contains n d) (λ h. pick-true _ _ _ h ∙ sym (without-power n d h)) (λ h. pick-false _ _ _ h ∙ sym (without-absent n d h))
 
 -- each way that writing or striking goes: a property of the note after it holds if it holds in each
 with-cases : (n d : ℕ) (P : ℕ → Type 0) → P n → (inRange d ≡ true → n / 2 ^ d % 2 ≡ 0 → P (n + 2 ^ d)) → P (withMark n d)
@@ -218,8 +254,22 @@ empty-contains n d h =
 pub with-fits : (w n d : ℕ) → 10 ≤ w → n < 2 ^ w → withMark n d < 2 ^ w
 with-fits w n d l f = with-cases n d (λ (m : ℕ). m < 2 ^ w) f (λ r a. added-fits w n d (omega (arith, range-to d r)) f a)
 
-pub power-fits : (n d : ℕ) → contains n d ≡ true → powerOf d ≤ n
+pub power-below : (d : ℕ) → powerOf d < 65536
+power-below d = omega (arith, with-absent 0 d (contains-zero d), with-fits 16 0 d (omega arith) (omega arith))
+
+power-fits : (n d : ℕ) → contains n d ≡ true → powerOf d ≤ n
 power-fits n d h = rw (power-digit d (contains-digit n d h)) (power-le n d (contains-bit n d h))
+
+pub bit-fits : (n d : ℕ) → powerOf d * bit (contains n d) ≤ n
+unfolding bit
+bit-fits n d = by-test (contains n d) (λ h. rw h (omega (arith, power-fits n d h))) (λ h. rw h (omega arith))
+
+-- writing takes nothing away, and striking adds nothing
+pub with-grows : (n d : ℕ) → n ≤ withMark n d
+with-grows n d = with-cases n d (λ (m : ℕ). n ≤ m) (omega arith) (λ r a. omega arith)
+
+pub without-falls : (n d : ℕ) → without n d ≤ n
+without-falls n d = without-cases n d (λ (m : ℕ). m ≤ n) (omega arith) (λ r a. omega arith)
 
 -- ---- a note is no more than its marks
 

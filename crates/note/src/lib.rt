@@ -2,6 +2,8 @@
 // Every function takes any note and any byte for a digit: what is no digit is no mark of any note.
 use sudoku::in_range;
 ghost use mathlib.Core.Path.{_≡_};
+ghost use Prim.Native.Nat.{_≤_};
+ghost use Rattle.sudoku.specs.Tests.{bit};
 ghost use Rattle.note.specs.Note.{contains as containsOf, withMark, without as withoutMark, lenOf, isEmpty, digitsOf, isNote, powerOf};
 
 // The value of the mark `digit`, and 0 for what is not a digit from 1 to 9.
@@ -14,34 +16,36 @@ fn power(digit: u8) -> u16
     0
 }
 
-// Whether the mark `digit` is written. No note holds a mark that is not a digit from 1 to 9.
+// 1 where the mark `digit` is written, 0 where it is not. No note holds a mark that is not a digit from 1 to 9.
+pub fn bit_of(note: u16, digit: u8) -> u16
+    ensures { λ r. ⌜ (r ≡ bit (containsOf note digit)) × (r ≤ 1) ⌝ }
+{
+    if in_range(digit) {
+        return (note >> digit) % 2;
+    }
+    0
+}
+
+// Whether the mark `digit` is written.
 pub fn contains(note: u16, digit: u8) -> bool
     ensures { λ r. ⌜ r ≡ containsOf note digit ⌝ }
 {
-    if in_range(digit) {
-        return (note >> digit) % 2 == 1;
-    }
-    false
+    bit_of(note, digit) == 1
 }
 
-// The note with the mark `digit` written, or the same note for what is not a digit.
+// The note with the mark `digit` written, or the same note for what is not a digit. What is missing is added without a test, since nothing foretells which
+// of twenty peers has a mark, and a wrong guess costs more than the sum.
 pub fn with(note: u16, digit: u8) -> u16
     ensures { λ r. ⌜ r ≡ withMark note digit ⌝ }
 {
-    if contains(note, digit) {
-        return note;
-    }
-    note + power(digit)
+    note + power(digit) * (1 - bit_of(note, digit))
 }
 
-// The note with the mark `digit` struck.
+// The note with the mark `digit` struck. What is there is taken away, without a test.
 pub fn without(note: u16, digit: u8) -> u16
     ensures { λ r. ⌜ r ≡ withoutMark note digit ⌝ }
 {
-    if !contains(note, digit) {
-        return note;
-    }
-    note - power(digit)
+    note - power(digit) * bit_of(note, digit)
 }
 
 // How many marks are written.
