@@ -1,19 +1,20 @@
 -- The loops over a list of twenty cells: what a turn takes off each walk of specs/State over what is left of the list, `drop i cells`.
 -- Assumes nothing.
 use Prim.Native.Nat.{ℕ, zero, suc, _+_, _-_, _*_, _/_, _%_, _≤_, _<_, _^_}
-use mathlib.Core.Path.{_≡_, refl, _∙_}
+use mathlib.Core.Path.{_≡_, refl, sym, ap, _∙_}
 use mathlib.Core.Bool.{Bool, true, false, not}
 use mathlib.Core.List.{List, [], _∷_}
 use native.Mathlib.Nat.{lt-of-lt-of-le, le-of-suc-le-suc, not-suc-le-zero}
 use native.Mathlib.Numerals.{add-one}
 use native.Mathlib.Omega.{arith}
-use borrow.Author.Tests.{eq-eqb, ne-eqb}
-use lib.ListN.{length, getD, drop, length-drop}
+use borrow.Author.Tests.{eqb-true, eqb-false}
+use lib.Dec.{eqb}
+use lib.ListN.{length, getD, set, drop, length-drop}
 use lib.Pow.{pow-mono}
-use lib.Seq.{drop-cons}
+use lib.Seq.{drop-cons, set-getD}
 use Rattle.sudoku.specs.Tests.{pick, both, either, bit}
 use Rattle.sudoku.specs.Grid.{at}
-use Rattle.sudoku.proofs.Walks.{both-first, both-false-left}
+use Rattle.sudoku.proofs.Walks.{by-test, both-second}
 use Rattle.note.specs.Note.{contains}
 use Rattle.journal.specs.State.{writeAt, strikeAt, strikeAll, holders, lowest, strikeMasked, writeMasked, everyMasked}
 use Rattle.journal.proofs.NoteCells.{holders-small}
@@ -55,12 +56,12 @@ module _ (cells : List ℕ) (i : ℕ) (n : length cells ≡ 20) (h : i < 20) whe
   unfolding everyMasked
   masked-turn f mask = rw (cells-left cells i n h)
 
-  pub masked-more : (f : ℕ → Bool) (mask : ℕ) → either (not (lowest mask)) (f (getD cells i 0)) ≡ true
-      → everyMasked f mask (drop i cells) ≡ everyMasked f (mask / 2) (drop (i + 1) cells)
-  masked-more f mask t = masked-turn f mask ∙ both-first _ _ t
-
-  pub masked-fails : (f : ℕ → Bool) (mask : ℕ) → either (not (lowest mask)) (f (getD cells i 0)) ≡ false → everyMasked f mask (drop i cells) ≡ false
-  masked-fails f mask t = masked-turn f mask ∙ both-false-left _ _ t
+  -- what was found so far, and the test of this cell
+  pub masked-step : (f : ℕ → Bool) (mask : ℕ) (ok r : Bool) → r ≡ both ok (either (not (lowest mask)) (f (getD cells i 0)))
+      → both ok (everyMasked f mask (drop i cells)) ≡ both r (everyMasked f (mask / 2) (drop (i + 1) cells))
+  unfolding both
+  masked-step f mask true r e = masked-turn f mask ∙ ap (λ (t : Bool). both t (everyMasked f (mask / 2) (drop (i + 1) cells))) (sym e)
+  masked-step f mask false r e = ap (λ (t : Bool). both t (everyMasked f (mask / 2) (drop (i + 1) cells))) (sym e)
 
 -- the loop that makes the mask comes from the end: after the turn that passes from i to i - 1 the mask is that of the cells from i - 1 on
 pub holders-turn : (notes cells : List ℕ) (d i mask : ℕ) → length cells ≡ 20 → 0 < i → i ≤ 20 → mask ≡ holders notes d (drop i cells)
@@ -85,24 +86,70 @@ module _ (cells : List ℕ) (i : ℕ) (n : length cells ≡ 20) (h : 20 ≤ i) w
   unfolding writeMasked
   write-masked-end notes d mask = rw (none-left cells i n h)
 
-  pub masked-end : (f : ℕ → Bool) (mask : ℕ) → everyMasked f mask (drop i cells) ≡ true
+  pub masked-end : (f : ℕ → Bool) (mask : ℕ) (ok : Bool) → both ok (everyMasked f mask (drop i cells)) ≡ ok
   unfolding everyMasked
-  masked-end f mask = rw (none-left cells i n h)
+  masked-end f mask ok = rw (none-left cells i n h) (both-second ok true refl)
 
   -- this loop starts at the end
   pub holders-end : (notes : List ℕ) (d : ℕ) → holders notes d (drop i cells) ≡ 0
   unfolding holders
   holders-end notes d = rw (none-left cells i n h)
 
--- ---- a mask is even exactly where its lowest bit is not set
+-- ---- a note changed, and tested, by the lowest bit of a mask and without a test of that bit
 
-pub even-lowest : (mask : ℕ) → mask % 2 ≡ 0 → lowest mask ≡ false
-unfolding lowest
-even-lowest mask h = ne-eqb (mask % 2) 1 (λ p. omega (arith, h, p))
+pub low-bit : (mask : ℕ) → mask % 2 ≡ bit (lowest mask)
+unfolding lowest bit
+low-bit mask = by-test (eqb (mask % 2) 1) (λ t. eqb-true (mask % 2) 1 t ∙ sym (ap bit t)) (λ t. omega (arith, eqb-false (mask % 2) 1 t) ∙ sym (ap bit t))
 
-pub odd-lowest : (mask : ℕ) → (mask % 2 ≡ 0 → ⊥) → lowest mask ≡ true
-unfolding lowest
-odd-lowest mask h = eq-eqb (mask % 2) 1 (omega (arith, h))
+-- no or one time what is missing up to w, or what is above it
+pub grown-by : (n w : ℕ) (b : Bool) → n ≤ w → n + bit b * (w - n) ≡ pick b w n
+unfolding bit pick
+grown-by n w true h = omega arith
+grown-by n w false h = omega arith
+
+pub fallen-by : (n w : ℕ) (b : Bool) → w ≤ n → n - bit b * (n - w) ≡ pick b w n
+unfolding bit pick
+fallen-by n w true h = omega arith
+fallen-by n w false h = omega arith
+
+-- what a cell's note becomes is stored: where it stays, the list does
+pub set-pick : (t : Bool) (l : List ℕ) (k x : ℕ) → pick t (set l k x) l ≡ set l k (pick t x (getD l k 0))
+unfolding pick
+set-pick true l k x = refl
+set-pick false l k x = sym (set-getD l k 0)
+
+-- where a change changes nothing it does not matter whether it is made
+pub pick-same : (t : Bool) (l m : List ℕ) → l ≡ m → pick t l m ≡ m
+unfolding pick
+pick-same true l m h = h
+pick-same false l m h = refl
+
+-- the bit of the mask is set, and the mark is missing; and the other way
+pub has-not : (b h : Bool) → bit h < bit b → either (not b) h ≡ false
+unfolding bit either
+has-not true false l = refl
+has-not true true l = absurd (omega arith)
+has-not false h l = absurd (omega arith)
+
+pub has-so : (b h : Bool) → bit b ≤ bit h → either (not b) h ≡ true
+unfolding bit either
+has-so true true l = refl
+has-so true false l = absurd (omega arith)
+has-so false h l = refl
+
+-- both are set; and the other way
+pub lacks-not : (b h : Bool) → bit b + bit h ≡ 2 → either (not b) (not h) ≡ false
+unfolding bit either
+lacks-not true true e = refl
+lacks-not true false e = absurd (omega arith)
+lacks-not false true e = absurd (omega arith)
+lacks-not false false e = absurd (omega arith)
+
+pub lacks-so : (b h : Bool) → (bit b + bit h ≡ 2 → ⊥) → either (not b) (not h) ≡ true
+unfolding bit either
+lacks-so true true n = absurd (n refl)
+lacks-so true false n = refl
+lacks-so false h n = refl
 
 -- ---- the mask of what is left of twenty cells fits twenty bits
 

@@ -1,4 +1,5 @@
 // What moves do to the kept notes: 81 of them, row by row. Notes change in place. The loops go over twenty cells that the caller hands over, so the peers of a cell are asked for once; a cell that the grid does not have changes nothing.
+use note::bit_of;
 use note::contains;
 use note::with;
 use note::without;
@@ -7,10 +8,10 @@ use sudoku::PEERS_PER_CELL;
 use sudoku::wide;
 ghost use mathlib.Core.Path.{_≡_};
 ghost use mathlib.Core.Bool.{not};
-ghost use Prim.Native.Nat.{_+_, _*_, _<_, _^_};
-ghost use Rattle.sudoku.specs.Tests.{pick, either, bit};
+ghost use Prim.Native.Nat.{_+_, _*_, _≤_, _<_, _^_};
+ghost use Rattle.sudoku.specs.Tests.{pick, both, either, bit};
 ghost use Rattle.sudoku.specs.Grid.{at};
-ghost use Rattle.note.specs.Note.{contains as containsOf};
+ghost use Rattle.note.specs.Note.{contains as containsOf, withMark, without as withoutMark};
 ghost use Rattle.journal.specs.State.{writeAt, strikeAt, strikeAll, holders as holdersOf, lowest, strikeMasked, writeMasked, everyMasked};
 
 // The kept note of a cell, and an empty note where there is no such cell.
@@ -84,24 +85,49 @@ pub fn holders(notes: &[u16; 81], digit: u8, cells: [u8; 20]) -> u32
     mask
 }
 
+// The lowest bit of a mask.
+fn lowest_bit(mask: u32) -> u16
+    ensures { λ r. ⌜ (r ≡ bit (lowest mask)) × (r ≤ 1) ⌝ }
+{
+    (mask % 2) as u16
+}
+
+// The note with the mark `digit` struck where the lowest bit of the mask is set, without a test of the bit: nothing foretells it.
+fn struck_if(note: u16, digit: u8, mask: u32) -> u16
+    ensures { λ r. ⌜ r ≡ pick (lowest mask) (withoutMark note digit) note ⌝ }
+{
+    note - lowest_bit(mask) * (note - without(note, digit))
+}
+
+// The note with the mark `digit` written where the lowest bit of the mask is set, without a test of the bit.
+fn written_if(note: u16, digit: u8, mask: u32) -> u16
+    ensures { λ r. ⌜ r ≡ pick (lowest mask) (withMark note digit) note ⌝ }
+{
+    note + lowest_bit(mask) * (with(note, digit) - note)
+}
+
 // The mark `digit` struck at a cell where the lowest bit of the mask is set.
 fn strike_if(notes: &mut [u16; 81], cell: usize, digit: u8, mask: u32)
     ensures { λ _. ⌜ now (notes .exit) ≡ pick (lowest mask) (strikeAt (now (notes .entry)) cell digit) (now (notes .entry)) ⌝ }
 {
-    if mask % 2 == 0 {
+    let all: &mut [u16] = notes;
+    let at = index_of(cell);
+    if at >= all.len() {
         return;
     }
-    strike_in(notes, cell, digit);
+    all[at] = struck_if(all[at], digit, mask);
 }
 
 // The mark `digit` written at a cell where the lowest bit of the mask is set.
 fn write_if(notes: &mut [u16; 81], cell: usize, digit: u8, mask: u32)
     ensures { λ _. ⌜ now (notes .exit) ≡ pick (lowest mask) (writeAt (now (notes .entry)) cell digit) (now (notes .entry)) ⌝ }
 {
-    if mask % 2 == 0 {
+    let all: &mut [u16] = notes;
+    let at = index_of(cell);
+    if at >= all.len() {
         return;
     }
-    write_in(notes, cell, digit);
+    all[at] = written_if(all[at], digit, mask);
 }
 
 // The mark `digit` struck from those of the cells whose bit is set in the mask.
@@ -130,54 +156,52 @@ pub fn write_masked_in(notes: &mut [u16; 81], digit: u8, mask: u32, cells: [u8; 
     }
 }
 
-// Whether the mark `digit` stands in the note, where the lowest bit of the mask is set.
-fn has_if(note: u16, digit: u8, mask: u32) -> bool
-    ensures { λ r. ⌜ r ≡ either (not (lowest mask)) (containsOf note digit) ⌝ }
+// What was found so far, and whether the mark `digit` stands in the note, where the lowest bit of the mask is set.
+fn has_step(ok: bool, note: u16, digit: u8, mask: u32) -> bool
+    ensures { λ r. ⌜ r ≡ both ok (either (not (lowest mask)) (containsOf note digit)) ⌝ }
 {
-    if mask % 2 == 1 {
-        return contains(note, digit);
+    if lowest_bit(mask) > bit_of(note, digit) {
+        return false;
     }
-    true
+    ok
 }
 
-// Whether the mark `digit` is missing in the note, where the lowest bit of the mask is set.
-fn lacks_if(note: u16, digit: u8, mask: u32) -> bool
-    ensures { λ r. ⌜ r ≡ either (not (lowest mask)) (not (containsOf note digit)) ⌝ }
+// What was found so far, and whether the mark `digit` is missing in the note, where the lowest bit of the mask is set.
+fn lacks_step(ok: bool, note: u16, digit: u8, mask: u32) -> bool
+    ensures { λ r. ⌜ r ≡ both ok (either (not (lowest mask)) (not (containsOf note digit))) ⌝ }
 {
-    if mask % 2 == 1 {
-        return !contains(note, digit);
+    if lowest_bit(mask) + bit_of(note, digit) == 2 {
+        return false;
     }
-    true
+    ok
 }
 
-// Whether each of the cells whose bit is set in the mask has the mark `digit`.
+// Whether each of the cells whose bit is set in the mask has the mark `digit`. The loop has no early exit, so that it asks nothing that cannot be foretold.
 pub fn masked_have(notes: &[u16; 81], digit: u8, mask: u32, cells: [u8; 20]) -> bool
     ensures { λ r. ⌜ r ≡ everyMasked (λ peer. containsOf (at (now (notes .entry)) peer) digit) mask cells ⌝ }
 {
+    let mut ok = true;
     let mut rest = mask;
     let mut i: usize = 0;
     while i < PEERS_PER_CELL {
-        if !has_if(note_at(notes, wide(cells[i])), digit, rest) {
-            return false;
-        }
+        ok = has_step(ok, note_at(notes, wide(cells[i])), digit, rest);
         rest = rest / 2;
         i += 1;
     }
-    true
+    ok
 }
 
 // Whether none of the cells whose bit is set in the mask has the mark `digit`.
 pub fn masked_lack(notes: &[u16; 81], digit: u8, mask: u32, cells: [u8; 20]) -> bool
     ensures { λ r. ⌜ r ≡ everyMasked (λ peer. not (containsOf (at (now (notes .entry)) peer) digit)) mask cells ⌝ }
 {
+    let mut ok = true;
     let mut rest = mask;
     let mut i: usize = 0;
     while i < PEERS_PER_CELL {
-        if !lacks_if(note_at(notes, wide(cells[i])), digit, rest) {
-            return false;
-        }
+        ok = lacks_step(ok, note_at(notes, wide(cells[i])), digit, rest);
         rest = rest / 2;
         i += 1;
     }
-    true
+    ok
 }

@@ -1,20 +1,43 @@
--- `journal::notes::write_if` meets its contract: a note is written only where the lowest bit of the mask is set.
+-- `journal::notes::write_if` meets its contract: where the note stays the list does, and beyond the list there is nothing to change.
 -- Assumes nothing.
-use mathlib.Core.Path.{sym, _∙_}
+use mathlib.Core.Path.{_≡_, sym, ap, _∙_}
+use mathlib.Core.List.{List}
+use Prim.Native.Nat.{ℕ}
+use native.Mathlib.Omega.{arith}
+use lib.Seq.{set-out}
+use Rattle.sudoku.specs.Tests.{pick}
+use Rattle.sudoku.specs.Grid.{at, put}
+use Rattle.journal.specs.State.{writeAt, lowest}
+use Rattle.journal.proofs.CellLoops.{set-pick, pick-same}
 use borrow.Author.Needs.{needs}
-use Rattle.sudoku.proofs.Walks.{pick-true, pick-false}
-use Rattle.journal.proofs.CellLoops.{even-lowest, odd-lowest}
 use Rattle.journal.proofs.notes.write_if.Statement.{statement}
 use Rattle.journal.proofs.notes.write_if.Tie as tie
 
-returns : tie.Need-returns
-returns c = sym (pick-false _ _ _ (even-lowest _ (c .if1 .taken)))
+index-of-requires : tie.Need-index-of-requires
+index-of-requires c κs = search needs
 
-write-in-requires : tie.Need-write-in-requires
-write-in-requires c κs = search needs
+returns : tie.Need-returns
+unfolding writeAt at put
+returns c = sym (pick-same (lowest (c .before .before .before .args .mask)) _ _ (set-out (c .before .before .before .args .notes .now) _ _ (omega (arith, c .if1 .taken, c .before .index-of .ensures))))
+
+mul-written-if : tie.Need-mul-written-if
+mul-written-if c = search needs
+
+slice-read-written-if : tie.Need-slice-read-written-if
+slice-read-written-if c = search needs
+
+written-if-requires : tie.Need-written-if-requires
+written-if-requires c κs = search needs
+
+mul-all : tie.Need-mul-all
+mul-all c = search needs
+
+slice-write-all : tie.Need-slice-write-all
+slice-write-all c = search needs
 
 returns-2 : tie.Need-returns-2
-returns-2 c = c .write-in .ensures ∙ sym (pick-true _ _ _ (odd-lowest _ (c .before .before .if1 .left)))
+unfolding writeAt at put
+returns-2 c = rw (c .written-if .ensures, c .before .before .before .index-of .ensures) (sym (set-pick (lowest (c .before .before .before .before .before .args .mask)) (c .before .before .before .before .before .args .notes .now) _ _))
 
 pub write-if-spec : {M : Type 1} → statement M
-write-if-spec = tie.close (tie.spec returns write-in-requires returns-2)
+write-if-spec = tie.close (tie.spec index-of-requires returns mul-written-if slice-read-written-if written-if-requires mul-all slice-write-all returns-2)
