@@ -2,7 +2,6 @@
 use board::Board;
 
 mod input;
-mod perform;
 mod start;
 
 pub use start::run;
@@ -31,14 +30,6 @@ pub struct Byte {
     pub end: usize,
     pub byte: u8,
     pub ended: bool,
-}
-
-// The numbers after a command.
-pub struct Numbers {
-    pub good: bool,
-    pub row: u8,
-    pub column: u8,
-    pub digit: u8,
 }
 
 // What the console was started with: the lengths of the two names, how to colour (0 where the output is a terminal, 1 always, 2 never), and whether something was wrong.
