@@ -100,7 +100,7 @@ impl Boards<'_> {
                 black_box(board.cell(position(cell)));
             },
             |board, cell| {
-                black_box(sys::cell(&board.board, row(cell), column(cell)));
+                black_box(sys::cell(board.board(), row(cell), column(cell)));
             },
         );
         self.time(
@@ -109,7 +109,7 @@ impl Boards<'_> {
                 black_box(board.is_consistent());
             },
             |board, _| {
-                black_box(sys::is_consistent(&board.board));
+                black_box(sys::is_consistent(board.board()));
             },
         );
         self.call("erase", |cell, _| Call::Erase(cell));

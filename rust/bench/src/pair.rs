@@ -2,46 +2,52 @@
 
 use crate::puzzle::{Puzzle, column, position, row};
 use original::board::Board as Theirs;
-use pawdoku::sys::{self, Board};
+use pawdoku::sys::{self, Answer, Board, Refusal};
 
-/// A board of the library with its lent memory.
+/// A board of the library with its lent memory. The board is that of the latest answer: an answer's board, refused or
+/// not, is the one to go on with, and a host that keeps the answer copies it once less.
 pub struct Ours {
-    pub board: Board,
+    answer: Answer,
     pub journal: Vec<u8>,
     pub checks: Vec<u8>,
 }
 
 impl Ours {
     pub fn unopened() -> Self {
-        Self { board: Board::ZERO, journal: vec![0; pawdoku::JOURNAL_BYTES], checks: vec![0; pawdoku::CHECK_MEMORY] }
+        Self {
+            answer: Answer { refusal: Refusal { number: 0, place: 0, inner: 0 }, board: Board::ZERO },
+            journal: vec![0; pawdoku::JOURNAL_BYTES],
+            checks: vec![0; pawdoku::CHECK_MEMORY],
+        }
+    }
+
+    #[inline]
+    pub fn board(&self) -> &Board {
+        &self.answer.board
     }
 
     #[inline]
     pub fn open(&mut self, puzzle: &Puzzle) {
-        let answer = sys::open(&puzzle.bytes, &puzzle.solution, &mut self.journal, &mut self.checks);
-        assert_eq!(answer.refusal.number, 0);
-        self.board = answer.board;
+        self.answer = sys::open(&puzzle.bytes, &puzzle.solution, &mut self.journal, &mut self.checks);
+        assert_eq!(self.answer.refusal.number, 0);
     }
 
     #[inline]
     pub fn make(&mut self, call: Call) {
-        let (board, journal) = (&self.board, &mut self.journal);
-        let answer = match call {
-            Call::Place(cell, digit) => sys::place(board, journal, row(cell), column(cell), digit),
-            Call::Erase(cell) => sys::erase(board, journal, row(cell), column(cell)),
-            Call::Write(cell, digit) => sys::write_mark(board, journal, row(cell), column(cell), digit),
-            Call::Strike(cell, digit) => sys::strike_mark(board, journal, row(cell), column(cell), digit),
-            Call::Undo => sys::undo(board, journal),
-            Call::Redo => sys::redo(board, journal),
+        let (board, journal) = (&self.answer.board, &mut self.journal);
+        match call {
+            Call::Place(cell, digit) => self.answer = sys::place(board, journal, row(cell), column(cell), digit),
+            Call::Erase(cell) => self.answer = sys::erase(board, journal, row(cell), column(cell)),
+            Call::Write(cell, digit) => self.answer = sys::write_mark(board, journal, row(cell), column(cell), digit),
+            Call::Strike(cell, digit) => self.answer = sys::strike_mark(board, journal, row(cell), column(cell), digit),
+            Call::Undo => self.answer = sys::undo(board, journal),
+            Call::Redo => self.answer = sys::redo(board, journal),
             Call::Check(cell) => {
-                let answer = sys::check(board, &mut self.checks, row(cell), column(cell));
-                assert_eq!(answer.refusal.number, 0);
-                self.board = answer.board;
-                return;
+                let checked = sys::check(board, &mut self.checks, row(cell), column(cell));
+                self.answer = Answer { refusal: checked.refusal, board: checked.board };
             }
-        };
-        assert_eq!(answer.refusal.number, 0);
-        self.board = answer.board;
+        }
+        assert_eq!(self.answer.refusal.number, 0);
     }
 }
 

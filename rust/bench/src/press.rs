@@ -31,7 +31,7 @@ fn draw_theirs(board: &Theirs, screen: &mut Screen) {
 
 fn draw_ours(ours: &Ours, screen: &mut Screen) {
     for cell in 0..81 {
-        let shown = sys::cell(&ours.board, row(cell), column(cell));
+        let shown = sys::cell(ours.board(), row(cell), column(cell));
         let out = &mut screen[cell * 12..cell * 12 + 12];
         out[..3].copy_from_slice(&[shown.digit, shown.given, shown.conflicting]);
         for mark in 1..=9 {
@@ -39,7 +39,7 @@ fn draw_ours(ours: &Ours, screen: &mut Screen) {
         }
     }
     for (out, key) in screen[81 * 12..].iter_mut().zip(1..) {
-        *out = sys::digits_left(&ours.board, key).left;
+        *out = sys::digits_left(ours.board(), key).left;
     }
 }
 

@@ -53,7 +53,7 @@ fn played(puzzle: &Puzzle, calls: &[Call]) -> (Theirs, Ours) {
 
 pub fn written(ours: &Ours) -> Vec<u8> {
     let mut output = vec![0; pawdoku::MAX_RECORD];
-    let written = sys::write(&ours.board, &ours.journal, &ours.checks, &mut output);
+    let written = sys::write(ours.board(), &ours.journal, &ours.checks, &mut output);
     assert_eq!(written.refusal.number, 0);
     output.truncate(written.length);
     output
@@ -72,7 +72,7 @@ fn reopening(puzzle: &Puzzle, name: &str, calls: &[Call], rounds: usize) {
             black_box(theirs.write());
         },
         || {
-            black_box(sys::write(&ours.board, &ours.journal, &ours.checks, &mut output));
+            black_box(sys::write(ours.board(), &ours.journal, &ours.checks, &mut output));
         },
     );
     let mut fresh = Ours::unopened();
@@ -119,7 +119,7 @@ pub fn table(puzzle: &Puzzle, rounds: usize) {
             for &call in &sitting {
                 board.make(call);
             }
-            black_box(board.board);
+            black_box(*board.board());
         },
     );
     reopening(puzzle, "the sitting", &sitting, rounds);

@@ -23,12 +23,12 @@ pub fn calls(puzzle: &Puzzle, moves: usize) -> Vec<Call> {
     while made < moves {
         let cell = puzzle.cells[dice.below(puzzle.cells.len())];
         let digit = 1 + dice.below(9) as u8;
-        let standing = ours.board.digits[cell];
-        let has = ours.board.notes[cell] >> digit & 1 == 1;
+        let standing = ours.board().digits[cell];
+        let has = ours.board().notes[cell] >> digit & 1 == 1;
         let call = match dice.below(10) {
-            0 if ours.board.standing > 0 => Call::Undo,
-            1 if ours.board.standing < ours.board.made => Call::Redo,
-            2 if standing != 0 && ours.board.checks < 256 => Call::Check(cell),
+            0 if ours.board().standing > 0 => Call::Undo,
+            1 if ours.board().standing < ours.board().made => Call::Redo,
+            2 if standing != 0 && ours.board().checks < 256 => Call::Check(cell),
             3 if standing != 0 => Call::Erase(cell),
             4 | 5 if standing != digit && digit != puzzle.solution[cell] => Call::Place(cell, digit),
             _ if standing != 0 => continue,

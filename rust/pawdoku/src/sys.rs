@@ -319,6 +319,7 @@ mod c {
 
 /// Opens a board on givens, triples of row, column, digit in ascending order. Refused by 1, 19, 22 to 27.
 #[must_use]
+#[inline]
 pub fn open(givens: &[u8], solution: &[u8], journal: &mut [u8], checks: &mut [u8]) -> Answer {
     unsafe {
         c::pawdoku_open(
@@ -336,6 +337,7 @@ pub fn open(givens: &[u8], solution: &[u8], journal: &mut [u8], checks: &mut [u8
 
 /// Places a digit. Refused by 1 to 5, 8, 9, 15.
 #[must_use]
+#[inline]
 pub fn place(board: &Board, journal: &mut [u8], row: u8, column: u8, digit: u8) -> Answer {
     let (lent, length) = (journal.as_mut_ptr(), journal.len());
     unsafe { c::pawdoku_place(*board, lent, length, row, column, digit) }
@@ -343,12 +345,14 @@ pub fn place(board: &Board, journal: &mut [u8], row: u8, column: u8, digit: u8) 
 
 /// Erases the player's digit. Refused by 1 to 4, 6, 15.
 #[must_use]
+#[inline]
 pub fn erase(board: &Board, journal: &mut [u8], row: u8, column: u8) -> Answer {
     unsafe { c::pawdoku_erase(*board, journal.as_mut_ptr(), journal.len(), row, column) }
 }
 
 /// Writes a mark. Refused by 1 to 4, 7, 8, 10, 15.
 #[must_use]
+#[inline]
 pub fn write_mark(board: &Board, journal: &mut [u8], row: u8, column: u8, digit: u8) -> Answer {
     let (lent, length) = (journal.as_mut_ptr(), journal.len());
     unsafe { c::pawdoku_write_mark(*board, lent, length, row, column, digit) }
@@ -356,6 +360,7 @@ pub fn write_mark(board: &Board, journal: &mut [u8], row: u8, column: u8, digit:
 
 /// Strikes a mark. Refused by 1 to 4, 7, 11, 15.
 #[must_use]
+#[inline]
 pub fn strike_mark(board: &Board, journal: &mut [u8], row: u8, column: u8, digit: u8) -> Answer {
     let (lent, length) = (journal.as_mut_ptr(), journal.len());
     unsafe { c::pawdoku_strike_mark(*board, lent, length, row, column, digit) }
@@ -363,24 +368,28 @@ pub fn strike_mark(board: &Board, journal: &mut [u8], row: u8, column: u8, digit
 
 /// Takes the latest standing move back. Refused by 1, 2, 4, 12, 14.
 #[must_use]
+#[inline]
 pub fn undo(board: &Board, journal: &[u8]) -> Answer {
     unsafe { c::pawdoku_undo(*board, journal.as_ptr(), journal.len()) }
 }
 
 /// Makes the next undone move again. Refused by 1, 2, 4, 13, 14.
 #[must_use]
+#[inline]
 pub fn redo(board: &Board, journal: &[u8]) -> Answer {
     unsafe { c::pawdoku_redo(*board, journal.as_ptr(), journal.len()) }
 }
 
 /// Compares a player's digit with the solution's and stores the check. Refused by 1 to 4, 6, 16.
 #[must_use]
+#[inline]
 pub fn check(board: &Board, checks: &mut [u8], row: u8, column: u8) -> Checked {
     unsafe { c::pawdoku_check(*board, checks.as_mut_ptr(), checks.len(), row, column) }
 }
 
 /// Shows the latest standing move: copies its slot into the output. Refused by 1, 2, 12, 34.
 #[must_use]
+#[inline]
 pub fn latest(board: &Board, journal: &[u8], output: &mut [u8]) -> Shown {
     let (out, room) = (output.as_mut_ptr(), output.len());
     unsafe { c::pawdoku_latest(*board, journal.as_ptr(), journal.len(), out, room) }
@@ -388,6 +397,7 @@ pub fn latest(board: &Board, journal: &[u8], output: &mut [u8]) -> Shown {
 
 /// Shows the next move to redo: copies its slot into the output. Refused by 1, 2, 13, 34.
 #[must_use]
+#[inline]
 pub fn next(board: &Board, journal: &[u8], output: &mut [u8]) -> Shown {
     let (out, room) = (output.as_mut_ptr(), output.len());
     unsafe { c::pawdoku_next(*board, journal.as_ptr(), journal.len(), out, room) }
@@ -395,6 +405,7 @@ pub fn next(board: &Board, journal: &[u8], output: &mut [u8]) -> Shown {
 
 /// Writes the record; bytes of the output beyond it stay. Refused by 1, 2, 14, 34.
 #[must_use]
+#[inline]
 pub fn write(board: &Board, journal: &[u8], checks: &[u8], output: &mut [u8]) -> Written {
     unsafe {
         c::pawdoku_write(
@@ -413,6 +424,7 @@ pub fn write(board: &Board, journal: &[u8], checks: &[u8], output: &mut [u8]) ->
 ///
 /// Taking back the record's undone moves uses stack for each of them: docs/PERFORMANCE.md says how much at most.
 #[must_use]
+#[inline]
 pub fn reopen(record: &[u8], solution: &[u8], journal: &mut [u8], checks: &mut [u8]) -> Answer {
     unsafe {
         c::pawdoku_reopen(
@@ -430,66 +442,77 @@ pub fn reopen(record: &[u8], solution: &[u8], journal: &mut [u8], checks: &mut [
 
 /// The reading of move k. Refused by 1, 2, 14, 35.
 #[must_use]
+#[inline]
 pub fn reading(board: &Board, journal: &[u8], k: usize) -> ReadingAnswer {
     unsafe { c::pawdoku_reading(*board, journal.as_ptr(), journal.len(), k) }
 }
 
 /// What the board shows of one cell. Refused by 2, 3.
 #[must_use]
+#[inline]
 pub fn cell(board: &Board, row: u8, column: u8) -> CellAnswer {
     unsafe { c::pawdoku_cell(*board, row, column) }
 }
 
 /// Does the cell hold a digit that a peer also holds? Refused by 2, 3.
 #[must_use]
+#[inline]
 pub fn conflicts(board: &Board, row: u8, column: u8) -> YesNo {
     unsafe { c::pawdoku_conflicts(*board, row, column) }
 }
 
 /// Does the cell hold no digit, so that marks are accepted? Refused by 2, 3.
 #[must_use]
+#[inline]
 pub fn accepts_marks(board: &Board, row: u8, column: u8) -> YesNo {
     unsafe { c::pawdoku_accepts_marks(*board, row, column) }
 }
 
 /// Does the cell hold a digit and is no given? Refused by 2, 3.
 #[must_use]
+#[inline]
 pub fn holds_players_digit(board: &Board, row: u8, column: u8) -> YesNo {
     unsafe { c::pawdoku_holds_players_digit(*board, row, column) }
 }
 
 /// Is the board solved? Refused by 2.
 #[must_use]
+#[inline]
 pub fn is_solved(board: &Board) -> YesNo {
     unsafe { c::pawdoku_is_solved(*board) }
 }
 
 /// Does every cell hold a digit? Refused by 2.
 #[must_use]
+#[inline]
 pub fn is_full(board: &Board) -> YesNo {
     unsafe { c::pawdoku_is_full(*board) }
 }
 
 /// Does no cell conflict? Refused by 2.
 #[must_use]
+#[inline]
 pub fn is_consistent(board: &Board) -> YesNo {
     unsafe { c::pawdoku_is_consistent(*board) }
 }
 
 /// Is there a move to take back, on a board that is not solved? Refused by 2.
 #[must_use]
+#[inline]
 pub fn can_undo(board: &Board) -> YesNo {
     unsafe { c::pawdoku_can_undo(*board) }
 }
 
 /// Is there a move to make again, on a board that is not solved? Refused by 2.
 #[must_use]
+#[inline]
 pub fn can_redo(board: &Board) -> YesNo {
     unsafe { c::pawdoku_can_redo(*board) }
 }
 
 /// How many of a digit are left for its key: nine less the cells that hold it, never below 0. Refused by 2, 8.
 #[must_use]
+#[inline]
 pub fn digits_left(board: &Board, digit: u8) -> Left {
     unsafe { c::pawdoku_digits_left(*board, digit) }
 }
@@ -497,6 +520,7 @@ pub fn digits_left(board: &Board, digit: u8) -> Left {
 /// Runs a list of calls, four bytes each: kind, row, column, digit. Writes four bytes for each into the answers:
 /// number, place (two bytes, low first), verdict. As many are run as there are whole groups of four in both.
 #[must_use]
+#[inline]
 pub fn play(board: &Board, journal: &mut [u8], checks: &mut [u8], calls: &[u8], answers: &mut [u8]) -> Answer {
     unsafe {
         c::pawdoku_play(
@@ -515,54 +539,63 @@ pub fn play(board: &Board, journal: &mut [u8], checks: &mut [u8], calls: &[u8], 
 
 /// Does the note hold the mark? 1 for yes.
 #[must_use]
+#[inline]
 pub fn note_contains(note: u16, digit: u8) -> u8 {
     unsafe { c::pawdoku_note_contains(note, digit) }
 }
 
 /// How many of the marks 1 to 9 the note holds.
 #[must_use]
+#[inline]
 pub fn note_len(note: u16) -> usize {
     unsafe { c::pawdoku_note_len(note) }
 }
 
 /// Does the note hold none of the marks 1 to 9? 1 for yes.
 #[must_use]
+#[inline]
 pub fn note_is_empty(note: u16) -> u8 {
     unsafe { c::pawdoku_note_is_empty(note) }
 }
 
 /// The marks of the note.
 #[must_use]
+#[inline]
 pub fn note_digits(note: u16) -> Digits {
     unsafe { c::pawdoku_note_digits(note) }
 }
 
 /// The cell's number from 1 to 81, row by row; 0 off the grid.
 #[must_use]
+#[inline]
 pub fn cell_of(row: u8, column: u8) -> usize {
     unsafe { c::pawdoku_cell_of(row, column) }
 }
 
 /// The band of a row, for every byte.
 #[must_use]
+#[inline]
 pub fn band(row: u8) -> u8 {
     unsafe { c::pawdoku_band(row) }
 }
 
 /// The stack of a column, for every byte.
 #[must_use]
+#[inline]
 pub fn stack(column: u8) -> u8 {
     unsafe { c::pawdoku_stack(column) }
 }
 
 /// Do two positions share a row, a column or a box, and are two? 1 for yes.
 #[must_use]
+#[inline]
 pub fn is_peer_of(row: u8, column: u8, row2: u8, column2: u8) -> u8 {
     unsafe { c::pawdoku_is_peer_of(row, column, row2, column2) }
 }
 
 /// The twenty peers of a cell; zeros where there is no such cell.
 #[must_use]
+#[inline]
 pub fn peers(cell: usize) -> PeerCells {
     unsafe { c::pawdoku_peers(cell) }
 }
