@@ -117,6 +117,21 @@ impl Boards<'_> {
     }
 }
 
+/// What the boundary itself costs: a call that is refused at once, by number 1, hands the board over and back and does
+/// nothing else.
+fn boundary(puzzle: &Puzzle, rounds: usize) -> f64 {
+    let mut boards: Vec<Ours> = puzzle.cells.iter().map(|_| Ours::unopened()).collect();
+    boards.iter_mut().for_each(|board| board.open(puzzle));
+    let mut times: Vec<f64> = (0..rounds)
+        .map(|_| {
+            let start = Instant::now();
+            boards.iter_mut().for_each(Ours::refused);
+            start.elapsed().as_nanos() as f64 / boards.len() as f64
+        })
+        .collect();
+    median_and_worst(&mut times).0
+}
+
 pub fn table(puzzle: &Puzzle, rounds: usize) {
     original::solver::load(&puzzle.solution);
     for pencilled in [false, true] {
@@ -131,4 +146,5 @@ pub fn table(puzzle: &Puzzle, rounds: usize) {
         }
         println!();
     }
+    println!("A call that is refused at once, by number 1, takes the library {:.0} ns.\n", boundary(puzzle, rounds));
 }

@@ -32,6 +32,13 @@ impl Ours {
         assert_eq!(self.answer.refusal.number, 0);
     }
 
+    /// A call that is refused at once: the journal has no bytes.
+    #[inline]
+    pub fn refused(&mut self) {
+        self.answer = sys::undo(&self.answer.board, &[]);
+        assert_eq!(self.answer.refusal.number, 1);
+    }
+
     #[inline]
     pub fn make(&mut self, call: Call) {
         let (board, journal) = (&self.answer.board, &mut self.journal);
