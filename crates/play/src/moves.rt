@@ -27,7 +27,7 @@ ghost use Rattle.journal.specs.Limits.{slotBytes};
 ghost use Rattle.journal.specs.Bytes.{laid};
 ghost use Rattle.journal.specs.State.{putDigit, strikeAll, perform as performOf};
 ghost use Rattle.journal.specs.Slots.{slotFor, bytesOf};
-ghost use Rattle.board.specs.Board.{stateOf, countsOf, moved};
+ghost use Rattle.board.specs.Board.{stateOf};
 ghost use Rattle.play.specs.Parts.{parts};
 ghost use Rattle.play.specs.Play.{recordMove, playOf, placeOf, eraseOf, writeMarkOf, strikeMarkOf};
 
@@ -52,16 +52,6 @@ pub fn put_in(digits: &mut [u8; 81], solved: bool, cell: usize, digit: u8) -> bo
         return solved;
     }
     settled(digits, solved)
-}
-
-// The board with other counts.
-pub fn counted(board: Board, counts: Counts) -> Board
-    ensures { λ r. ⌜ r ≡ moved board (stateOf board) counts ⌝ }
-{
-    let mut next = board;
-    next.made = counts.made;
-    next.standing = counts.standing;
-    next
 }
 
 // What a move does to the digits, in place; the status afterwards is answered.
@@ -101,18 +91,6 @@ pub fn perform_notes(notes: &mut [u16; 81], m: Move)
         Move::WriteMark { row, column, digit } => write_in(notes, cell_of(row, column), digit),
         Move::StrikeMark { row, column, digit } => strike_in(notes, cell_of(row, column), digit),
     }
-}
-
-// A move performed; the counts stay.
-pub fn perform(board: Board, m: Move) -> Board
-    ensures { λ r. ⌜ r ≡ moved board (performOf (stateOf board) m) (countsOf board) ⌝ }
-{
-    let before = board.solved;
-    let mut next = board;
-    let solved = perform_digit(&mut next.digits, before, m);
-    perform_notes(&mut next.notes, m);
-    next.solved = solved;
-    next
 }
 
 // The slot of a move with what it displaces: the digit before, and the peers that lose the mark.
@@ -161,25 +139,23 @@ pub fn slot_of<'a>(digits: &'a [u8; 81], notes: &'a [u16; 81], m: Move) -> Slot
     }
 }
 
-// The same of a board.
-pub fn slot_for(board: Board, m: Move) -> Slot
-    ensures { λ r. ⌜ r ≡ slotFor (stateOf board) m ⌝ }
-{
-    slot_of(&board.digits, &board.notes, m)
-}
-
 // A move performed and recorded: its one slot is written behind the standing ones. A journal that ends before it stays as it is.
 pub fn record_move(board: Board, journal: &mut [u8], m: Move) -> Board
     ensures { λ r. ⌜ (r ≡ recordMove board (now (journal .entry)) m .answer .board) × (now (journal .exit) ≡ laid (now (journal .entry)) (slotBytes * board .standing) (bytesOf (slotFor (stateOf board) m))) ⌝ }
 {
-    let slot = slot_for(board, m);
-    let standing = board.standing;
-    write_slot(journal, standing, slot);
+    let mut next = board;
+    let slot = slot_of(&next.digits, &next.notes, m);
+    write_slot(journal, board.standing, slot);
     let counts = after_record(Counts {
         made: board.made,
-        standing: standing,
+        standing: board.standing,
     });
-    counted(perform(board, m), counts)
+    let solved = perform_digit(&mut next.digits, board.solved, m);
+    perform_notes(&mut next.notes, m);
+    next.solved = solved;
+    next.made = counts.made;
+    next.standing = counts.standing;
+    next
 }
 
 // A call that makes a move. Refused by the numbers of the move, and by 1 2 15.

@@ -205,14 +205,6 @@ pub fn number_of_move<'a>(
     }
 }
 
-// The same of a board.
-pub fn move_number(board: Board, m: Move) -> u8
-    ensures { λ r. ⌜ r ≡ first (moveTests (stateOf board) m) ⌝ }
-{
-    let solved = board.solved;
-    number_of_move(&board.digits, &board.given, &board.notes, solved, m)
-}
-
 // 1 and 2, asked of a board's parts. That no other number comes spares callers a fact.
 pub fn number_of_lent<'a>(
     digits: &'a [u8; 81],

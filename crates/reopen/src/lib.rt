@@ -12,7 +12,7 @@ use journal::checks::write_check;
 use journal::slots::is_given;
 use play::checks::is_right;
 use play::moves::record_move;
-use play::numbers::move_number;
+use play::numbers::number_of_move;
 use puzzle::Layout;
 use puzzle::Refusal;
 use puzzle::answer::accepted;
@@ -52,7 +52,7 @@ fn perform_move(board: Board, journal: &mut [u8], k: usize, m: Move) -> Answer
             board: board,
         };
     }
-    let n = move_number(board, m);
+    let n = number_of_move(&board.digits, &board.given, &board.notes, false, m);
     if n != 0 {
         return Answer {
             refusal: refusal(29, k, n),
