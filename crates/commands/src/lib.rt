@@ -1,7 +1,5 @@
 // The commands of the console: each is one call of the library, and what it answers is shown.
-mod perform;
-
-pub use perform::perform;
+pub mod perform;
 
 // The numbers after a command.
 pub struct Numbers {

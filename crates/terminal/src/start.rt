@@ -5,7 +5,7 @@ use crate::Table;
 use crate::input::LINE_BYTES;
 use crate::input::read_line;
 use board::Board;
-use commands::perform;
+use commands::perform::perform;
 use files::Loaded;
 use files::load::load;
 use files::load::open_bytes;
