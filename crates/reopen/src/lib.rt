@@ -46,13 +46,14 @@ fn perform_move(board: Board, journal: &mut [u8], k: usize, m: Move) -> Answer
     requires { ⌜ (length (now journal) ≡ journalBytes) × (board .standing < maxMoves) ⌝ }
     ensures { λ r. ⌜ (r ≡ performed board (now (journal .entry)) k m .answer) × (now (journal .exit) ≡ performed board (now (journal .entry)) k m .journal) ⌝ }
 {
-    if board.solved {
+    let solved = board.solved;
+    if solved {
         return Answer {
             refusal: refusal(28, k, 0),
             board: board,
         };
     }
-    let n = number_of_move(&board.digits, &board.given, &board.notes, false, m);
+    let n = number_of_move(&board.digits, &board.given, &board.notes, solved, m);
     if n != 0 {
         return Answer {
             refusal: refusal(29, k, n),

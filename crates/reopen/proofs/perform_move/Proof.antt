@@ -21,21 +21,22 @@ refusal-requires c κs = search needs
 returns : tie.Need-returns
 returns c =
     let a = c .before .before .before .args in
-    let e = performed-28 (a .board) (a .journal .now) (a .k) (a .m) (c .before .if1 .taken) in
-    (ap (λ (r : Refusal). answer r (a .board)) (c .refusal .ensures) ∙ sym (ap (λ (x : Played). x .answer) e), sym (ap (λ (x : Played). x .journal) e))
+    let e = performed-28 (a .t1) (a .journal .now) (a .k) (a .m) (c .before .if1 .taken) in
+    (ap (λ (r : Refusal). answer r (a .t1)) (c .refusal .ensures) ∙ sym (ap (λ (x : Played). x .answer) e), sym (ap (λ (x : Played). x .journal) e))
 
-move-number-requires : tie.Need-move-number-requires
-move-number-requires c κs = search needs
+number-of-move-requires : tie.Need-number-of-move-requires
+number-of-move-requires c κs = search needs
 
 refusal-requires-2 : tie.Need-refusal-requires-2
 refusal-requires-2 c κs = search needs
 
 returns-2 : tie.Need-returns-2
+unfolding stateOf
 returns-2 c =
-    let a = c .before .before .before .before .before .args in
-    let move-number = c .before .before .move-number in
-    let e = performed-29 (a .board) (a .journal .now) (a .k) (a .m) (c .before .before .before .if1 .left) (move-number .result) (move-number .ensures) (c .before .if2 .taken) in
-    (ap (λ (r : Refusal). answer r (a .board)) (c .refusal2 .ensures) ∙ sym (ap (λ (x : Played). x .answer) e), sym (ap (λ (x : Played). x .journal) e))
+    let a = c .before .before .before .before .before .before .before .before .before .args in
+    let number = c .before .before .number-of-move in
+    let e = performed-29 (a .t1) (a .journal .now) (a .k) (a .m) (c .before .before .before .before .before .before .before .if1 .left) (number .result) (number .ensures) (c .before .if2 .taken) in
+    (ap (λ (r : Refusal). answer r (a .t1)) (c .refusal2 .ensures) ∙ sym (ap (λ (x : Played). x .answer) e), sym (ap (λ (x : Played). x .journal) e))
 
 record-move-requires : tie.Need-record-move-requires
 record-move-requires c κs = search needs
@@ -47,18 +48,18 @@ same-length : tie.Need-same-length
 same-length c = search needs
 
 returns-3 : tie.Need-returns-3
-unfolding recordMove
+unfolding recordMove stateOf
 returns-3 c =
-    let a = c .before .before .before .before .before .before .before .before .before .args in
-    let pre = c .before .before .before .before .before .before .before .before .before .pre in
-    let move-number = c .before .before .before .before .before .before .move-number in
+    let a = c .before .before .before .before .before .before .before .before .before .before .before .before .before .args in
+    let pre = c .before .before .before .before .before .before .before .before .before .before .before .before .before .pre in
+    let number = c .before .before .before .before .before .before .number-of-move in
     let record-move = c .before .before .before .record-move in
-    let e = performed-on (a .board) (a .journal .now) (a .k) (a .m) (c .before .before .before .before .before .before .before .if1 .left) (move-number .result) (move-number .ensures) (c .before .before .before .before .before .if2 .left) in
-    let slot = bytesOf (slotFor (stateOf (a .board)) (a .m)) in (
+    let e = performed-on (a .t1) (a .journal .now) (a .k) (a .m) (c .before .before .before .before .before .before .before .before .before .before .before .if1 .left) (number .result) (number .ensures) (c .before .before .before .before .before .if2 .left) in
+    let slot = bytesOf (slotFor (stateOf (a .t1)) (a .m)) in (
       (λ j. answer (c .accepted .ensures j) (record-move .ensures .0 j)) ∙ sym (ap (λ (x : Played). x .answer) e),
       record-move .ensures .1
-          ∙ laid-over (a .journal .now) (8 * a .board .standing) slot
-          (omega (arith, bytes-length (slotFor (stateOf (a .board)) (a .m)), pre .0, pre .1))
+          ∙ laid-over (a .journal .now) (8 * a .t1 .standing) slot
+          (omega (arith, bytes-length (slotFor (stateOf (a .t1)) (a .m)), pre .0, pre .1))
           ∙ sym (ap (λ (x : Played). x .journal) e),
     )
 
@@ -68,7 +69,7 @@ perform-move-spec =
     (tie.spec
     refusal-requires
     returns
-    move-number-requires
+    number-of-move-requires
     refusal-requires-2
     returns-2
     record-move-requires
