@@ -35,7 +35,7 @@ impl Ours {
     /// A call that is refused at once: the journal has no bytes.
     #[inline]
     pub fn refused(&mut self) {
-        self.answer = sys::undo(&self.answer.board, &[]);
+        self.answer = sys::place(&self.answer.board, &mut [], 1, 1, 1);
         assert_eq!(self.answer.refusal.number, 1);
     }
 
