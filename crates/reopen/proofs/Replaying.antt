@@ -6,11 +6,11 @@ use mathlib.Core.Bool.{true, false}
 use mathlib.Core.List.{List, _∷_}
 use native.Mathlib.Numerals.{add-one}
 use native.Mathlib.Omega.{arith}
-use borrow.Author.Tests.{eq-eqb, ne-eqb}
 use lib.Dec.{leb, eqb}
 use lib.ListN.{length}
-use Rattle.sudoku.specs.Tests.{first}
+use Rattle.sudoku.specs.Tests.{first, pick}
 use Rattle.sudoku.proofs.Walks.{by-test, pick-true, pick-false, left-one}
+use Rattle.puzzle.specs.declared.Refusal.{Refusal}
 use Rattle.puzzle.specs.Refusals.{refusal, accepted}
 use Rattle.journal.specs.declared.Counts.{Counts}
 use Rattle.journal.specs.declared.Move.{Move}
@@ -25,7 +25,7 @@ use Rattle.record.specs.declared.Item.the-variants.{Played as PlayedItem}
 use Rattle.record.specs.Items.{encode}
 use Rattle.record.specs.Counting.{moveAt}
 use Rattle.record.specs.Reopen.{replay}
-use Rattle.reopen.specs.Reopening.{movesAt, performed}
+use Rattle.reopen.specs.Reopening.{movesAt, nextRefusal, performed}
 
 recorded-le : (c : Counts) → recorded c .standing ≤ c .standing + 1
 unfolding recorded
@@ -38,21 +38,30 @@ module _ (b : Board) (journal : List ℕ) (k : ℕ) (m : Move) where
   abbrev number : ℕ
   number = first (moveTests (stateOf b) m)
 
-  -- move k: refused by 28, by 29, or recorded
-  pub performed-28 : b .solved ≡ true → performed b journal k m ≡ played (refusal 28 k 0) b journal
-  unfolding performed
-  performed-28 t = pick-true _ _ _ t
+  -- move k: refused by 28 or by 29, or recorded
+  pub next-stops : (nextRefusal (stateOf b) k m .number ≡ 0 → ⊥) → performed b journal k m ≡ played (nextRefusal (stateOf b) k m) b journal
+  unfolding performed nextRefusal stateOf
+  next-stops h =
+      by-test (b .solved)
+      (λ t. pick-true _ _ _ t ∙ sym (ap (λ (r : Refusal). played r b journal) (pick-true _ _ _ t)))
+      (λ t.
+      by-test (eqb number 0)
+      (λ u. absurd (h (ap (λ (r : Refusal). r .number) (pick-false _ _ _ t ∙ pick-true _ _ _ u))))
+      (λ u. pick-false _ _ _ t ∙ pick-false _ _ _ u ∙ sym (ap (λ (r : Refusal). played r b journal) (pick-false _ _ _ t ∙ pick-false _ _ _ u))))
 
-  pub performed-29 : b .solved ≡ false → (n : ℕ) → n ≡ number → (n ≡ 0 → ⊥) → performed b journal k m ≡ played (refusal 29 k n) b journal
-  unfolding performed
-  performed-29 t n e h =
-      pick-false _ _ _ t
-      ∙ pick-false _ _ _ (ap (λ (x : ℕ). eqb x 0) (sym e) ∙ ne-eqb n 0 h)
-      ∙ ap (λ (x : ℕ). played (refusal 29 k x) b journal) (sym e)
-
-  pub performed-on : b .solved ≡ false → (n : ℕ) → n ≡ number → n ≡ 0 → performed b journal k m ≡ recordMove b journal m
-  unfolding performed
-  performed-on t n e h = pick-false _ _ _ t ∙ pick-true _ _ _ (ap (λ (x : ℕ). eqb x 0) (sym e) ∙ eq-eqb n 0 h)
+  pub next-goes-on : nextRefusal (stateOf b) k m .number ≡ 0 → performed b journal k m ≡ recordMove b journal m
+  unfolding performed nextRefusal stateOf
+  next-goes-on h =
+      by-test (b .solved)
+      (λ t.
+      let no : 28 ≡ 0 = sym (ap (λ (r : Refusal). r .number) (pick-true (b .solved) (refusal 28 k 0) (pick (eqb number 0) accepted (refusal 29 k number)) t)) ∙ h in
+      absurd (omega (arith, no)))
+      (λ t.
+      by-test (eqb number 0)
+      (λ u. pick-false _ _ _ t ∙ pick-true _ _ _ u)
+      (λ u.
+      let no : 29 ≡ 0 = sym (ap (λ (r : Refusal). r .number) (pick-false (b .solved) (refusal 28 k 0) (pick (eqb number 0) accepted (refusal 29 k number)) t ∙ pick-false (eqb number 0) accepted (refusal 29 k number) u)) ∙ h in
+      absurd (omega (arith, no))))
 
   -- by these cases
   by-move : {A : Type 0} → (b .solved ≡ true → performed b journal k m ≡ played (refusal 28 k 0) b journal → A)

@@ -8,9 +8,10 @@ use lib.Dec.{eqb}
 use lib.ListN.{length}
 use Rattle.sudoku.specs.Tests.{_⇒_, first, pick, listed}
 use Rattle.sudoku.specs.Grid.{inRange, onGrid, cellOf}
-use Rattle.puzzle.specs.Refusals.{refusal, isAccepted}
+use Rattle.puzzle.specs.declared.Refusal.{Refusal}
+use Rattle.puzzle.specs.Refusals.{refusal, accepted, isAccepted}
 use Rattle.journal.specs.declared.Move.{Move}
-use Rattle.journal.specs.State.{givensOnly, isGiven}
+use Rattle.journal.specs.State.{State, givensOnly, isGiven}
 use Rattle.board.specs.declared.Answer.{Answer}
 use Rattle.board.specs.declared.Board.{Board}
 use Rattle.board.specs.Board.{stateOf}
@@ -31,6 +32,12 @@ movesAt bytes at (suc n) = moveAt bytes at ∷ movesAt bytes (at + length (encod
 -- n checks, six bytes each, the first of which stands at an offset
 unfoldable pub asksAt : List ℕ → ℕ → ℕ → List Asked
 asksAt bytes start n = listed (λ k. askedFrom bytes (start + 6 * (k - 1))) n 1
+
+-- why move k is refused: 28 before 29
+unfoldable pub nextRefusal : State → ℕ → Move → Refusal
+nextRefusal s k m =
+    let n = first (moveTests s m) in
+    pick (s .solved) (refusal 28 k 0) (pick (eqb n 0) accepted (refusal 29 k n))
 
 -- move k: 28, 29, or performed and recorded
 unfoldable pub performed : Board → List ℕ → ℕ → Move → Played

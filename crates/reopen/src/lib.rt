@@ -7,11 +7,16 @@ use board::open::fresh;
 use board::open::lent_lengths;
 use board::open::wrong_length;
 use board::open::zero_board;
+use journal::Counts;
 use journal::Move;
 use journal::checks::write_check;
 use journal::slots::is_given;
+use journal::slots::write_slot;
+use journal::steps::after_record;
 use play::checks::is_right;
-use play::moves::record_move;
+use play::moves::perform_digit;
+use play::moves::perform_notes;
+use play::moves::slot_of;
 use play::numbers::number_of_move;
 use puzzle::Layout;
 use puzzle::Refusal;
@@ -38,33 +43,65 @@ ghost use Rattle.journal.specs.Limits.{maxMoves, maxChecks, journalBytes, check
 ghost use Rattle.journal.specs.Bytes.{over};
 ghost use Rattle.journal.specs.StoredChecks.{storedBytes, storedAll};
 ghost use Rattle.board.specs.Open.{noMoves, noChecks, Gives};
+ghost use Rattle.puzzle.specs.Refusals.{accepted as acceptedOf};
+ghost use Rattle.play.specs.Parts.{parts};
 ghost use Rattle.record.specs.Reopen.{replay as replayOf, takeBackAll, toPlay, checkRefusal, checksRefusal, judged, reopenOf};
-ghost use Rattle.reopen.specs.Reopening.{movesAt, asksAt, performed, checkNumber, settledBy, reopenedOf, Reopens};
+ghost use Rattle.reopen.specs.Reopening.{movesAt, asksAt, nextRefusal, performed, checkNumber, settledBy, reopenedOf, Reopens};
 
-// Move k performed: 28 before 29.
-fn perform_move(board: Board, journal: &mut [u8], k: usize, m: Move) -> Answer
-    requires { ⌜ (length (now journal) ≡ journalBytes) × (board .standing < maxMoves) ⌝ }
-    ensures { λ r. ⌜ (r ≡ performed board (now (journal .entry)) k m .answer) × (now (journal .exit) ≡ performed board (now (journal .entry)) k m .journal) ⌝ }
+// Why move k is refused, asked of a board's parts: 28 before 29.
+fn next_refusal<'a>(
+    digits: &'a [u8; 81],
+    given: &'a [bool; 81],
+    notes: &'a [u16; 81],
+    solved: bool,
+    k: usize,
+    m: Move,
+) -> Refusal
+    ensures { λ r. ⌜ r ≡ nextRefusal (parts (now (given .entry)) (now (digits .entry)) (now (notes .entry)) solved) k m ⌝ }
 {
-    let solved = board.solved;
     if solved {
-        return Answer {
-            refusal: refusal(28, k, 0),
-            board: board,
-        };
+        return refusal(28, k, 0);
     }
-    let n = number_of_move(&board.digits, &board.given, &board.notes, solved, m);
+    let n = number_of_move(digits, given, notes, solved, m);
     if n != 0 {
-        return Answer {
-            refusal: refusal(29, k, n),
-            board: board,
-        };
+        return refusal(29, k, n);
     }
-    let next = record_move(board, journal, m);
-    Answer {
-        refusal: accepted(),
-        board: next,
+    accepted()
+}
+
+// Move k performed on the board of the answer so far, in place.
+fn perform_move(last: Answer, journal: &mut [u8], k: usize, m: Move) -> Answer
+    requires { ⌜ (length (now journal) ≡ journalBytes) × (last .board .standing < maxMoves) × (last .refusal ≡ acceptedOf) ⌝ }
+    ensures { λ r. ⌜ (r ≡ performed (last .board) (now (journal .entry)) k m .answer) × (now (journal .exit) ≡ performed (last .board) (now (journal .entry)) k m .journal) ⌝ }
+{
+    let mut answer = last;
+    let solved = last.board.solved;
+    let standing = last.board.standing;
+    let made = last.board.made;
+    let r = next_refusal(
+        &answer.board.digits,
+        &answer.board.given,
+        &answer.board.notes,
+        solved,
+        k,
+        m,
+    );
+    if r.number != 0 {
+        answer.refusal = r;
+        return answer;
     }
+    let slot = slot_of(&answer.board.digits, &answer.board.notes, m);
+    write_slot(journal, standing, slot);
+    let counts = after_record(Counts {
+        made: made,
+        standing: standing,
+    });
+    let status = perform_digit(&mut answer.board.digits, solved, m);
+    perform_notes(&mut answer.board.notes, m);
+    answer.board.solved = status;
+    answer.board.made = counts.made;
+    answer.board.standing = counts.standing;
+    answer
 }
 
 // All moves performed in order, the first of which stands at `start`.
@@ -80,8 +117,7 @@ fn replay(bytes: &[u8], start: usize, count: usize, board: Board, journal: &mut 
     let mut k: usize = 1;
     while k <= count {
         let m = move_at(bytes, at);
-        let last = answer.board;
-        let next = perform_move(last, journal, k, m);
+        let next = perform_move(answer, journal, k, m);
         let r = next.refusal;
         if r.number != 0 {
             return next;

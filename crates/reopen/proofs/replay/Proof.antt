@@ -45,18 +45,18 @@ move-at-requires c κs = search needs
 
 perform-move-requires : tie.Need-perform-move-requires Inv-loop μ-loop
 perform-move-requires c κs =
-    let turn = c .before .before .before .before .loop in
-    (turn .inv .2, omega (arith, turn .inv .3, c .before .before .before .before .before .before .before .before .pre .1))
+    let turn = c .before .before .before .loop in
+    (turn .inv .2, omega (arith, turn .inv .3, c .before .before .before .before .before .before .before .pre .1), turn .inv .5)
 
 same-length : tie.Need-same-length Inv-loop μ-loop
 same-length c =
-    omega (arith, c .before .before .before .before .before .perform-move .kept .1 .0, c .before .before .before .before .before .before .before .before .before .before .loop .inv .2, c .before .before .before .before .before .before .before .before .before .before .before .before .before .before .pre .3)
+    omega (arith, c .before .before .before .before .before .perform-move .kept .1 .0, c .before .before .before .before .before .before .before .before .before .loop .inv .2, c .before .before .before .before .before .before .before .before .before .before .before .before .before .pre .3)
 
 returns : tie.Need-returns Inv-loop μ-loop
 returns c =
-    let a = c .before .before .before .before .before .before .before .before .before .before .before .before .before .before .args in
-    let turn = c .before .before .before .before .before .before .before .before .before .before .loop in
-    let move-at = c .before .before .before .before .before .before .before .before .move-at in
+    let a = c .before .before .before .before .before .before .before .before .before .before .before .before .before .args in
+    let turn = c .before .before .before .before .before .before .before .before .before .loop in
+    let move-at = c .before .before .before .before .before .before .before .move-at in
     let perform-move = c .before .before .before .before .before .perform-move in
     let stop = turn-stops (a .bytes .now) (turn .at) (turn .k) (a .count) (turn .answer .board) (turn .journal) (move-at .result) (move-at .ensures) (omega arith) (perform-move .result) _ (perform-move .ensures .0) (perform-move .ensures .1) (c .if1 .taken) in
     (stop .0 ∙ ap (λ (x : Played). x .answer) (turn .inv .6), stop .1 ∙ ap (λ (x : Played). x .journal) (turn .inv .6))
@@ -66,8 +66,8 @@ move-length-requires c κs = search needs
 
 add-at : tie.Need-add-at Inv-loop μ-loop
 add-at c =
-    let pre = c .before .before .before .before .before .before .before .before .before .before .before .before .before .before .before .pre in
-    omega (arith, c .move-length .ensures .1, c .before .before .before .before .before .before .before .before .before .before .before .loop .inv .4, pre .0, pre .1, c .before .before .before .before .before .before .before .before .before .before .before .before .before .before .before .good .0 .1)
+    let pre = c .before .before .before .before .before .before .before .before .before .before .before .before .before .before .pre in
+    omega (arith, c .move-length .ensures .1, c .before .before .before .before .before .before .before .before .before .before .loop .inv .4, pre .0, pre .1, c .before .before .before .before .before .before .before .before .before .before .before .before .before .before .good .0 .1)
 
 add-k : tie.Need-add-k Inv-loop μ-loop
 add-k c = search needs
@@ -77,9 +77,9 @@ loop-less c = search needs
 
 loop-again : tie.Need-loop-again Inv-loop μ-loop
 loop-again c =
-    let a = c .before .before .before .before .before .before .before .before .before .before .before .before .before .before .before .args in
-    let turn = c .before .before .before .before .before .before .before .before .before .before .before .loop in
-    let move-at = c .before .before .before .before .before .before .before .before .before .move-at in
+    let a = c .before .before .before .before .before .before .before .before .before .before .before .before .before .before .args in
+    let turn = c .before .before .before .before .before .before .before .before .before .before .loop in
+    let move-at = c .before .before .before .before .before .before .before .before .move-at in
     let perform-move = c .before .before .before .before .before .before .perform-move in
     let move-length = c .move-length in (
       omega arith,
