@@ -146,5 +146,5 @@ pub fn table(puzzle: &Puzzle, rounds: usize) {
         }
         println!();
     }
-    println!("A call that is refused at once, by number 1, takes the library {:.0} ns.\n", boundary(puzzle, rounds));
+    println!("A place that is refused at once, by number 1, takes the library {:.0} ns.\n", boundary(puzzle, rounds));
 }
