@@ -20,12 +20,12 @@ use Rattle.journal.specs.declared.Slot.{Slot}
 use Rattle.journal.specs.State.{State, withNotes, putDigit, lowest, writeMasked, strikeMasked, everyMasked, perform, performAgain, takeBack, digitAt, noteAt, standsAsLeft, standsAsFound}
 use Rattle.journal.specs.Slots.{moveOf, digitChange}
 use Rattle.play.specs.Parts.{parts}
-use Rattle.back.specs.Halves.{digitBack, digitAgain, nextNumber, struckCells, marksBack, marksAgain, leftBy, foundBy}
+use Rattle.back.specs.Halves.{digitBack, digitAgain, slotToRedo, struckCells, marksBack, marksAgain, leftBy, foundBy}
 
 -- ---- the next move to redo
 
-pub next-standing : (made standing : ℕ) → standing < made → nextNumber made standing ≡ standing + 1
-unfolding nextNumber
+pub next-standing : (made standing : ℕ) → standing < made → slotToRedo made standing ≡ standing + 1
+unfolding slotToRedo
 next-standing made standing h = pick-false _ _ _ (lt-leb _ _ h)
 
 -- ---- a mask of 0

@@ -28,9 +28,9 @@ unfoldable pub digitAgain : State → ℕ → DigitChange → State
 digitAgain s cell (Put before after) = putDigit s cell after
 digitAgain s cell None = s
 
--- the number of the next move to redo, and 0 where there is none
-unfoldable pub nextNumber : ℕ → ℕ → ℕ
-nextNumber made standing = pick (leb made standing) 0 (standing + 1)
+-- the slot of the next move to redo, and 0 where there is none
+unfoldable pub slotToRedo : ℕ → ℕ → ℕ
+slotToRedo made standing = pick (leb made standing) 0 (standing + 1)
 
 -- the peers that a slot's mask speaks of; twenty zeros where it is 0, since then it speaks of none
 unfoldable pub struckCells : Slot → List ℕ

@@ -29,7 +29,7 @@ ghost use Rattle.journal.specs.Slots.{slotAt};
 ghost use Rattle.board.specs.Board.{whole};
 ghost use Rattle.play.specs.Parts.{parts};
 ghost use Rattle.play.specs.Play.{slotRefusal, canTakeBack, canRetake, undoTests, redoTests};
-ghost use Rattle.back.specs.Halves.{nextNumber, struckCells, leftBy, foundBy, asked as askedOf};
+ghost use Rattle.back.specs.Halves.{slotToRedo, struckCells, leftBy, foundBy, asked as askedOf};
 
 // Whether the mark stands in the kept note of a cell.
 fn has_mark(notes: &[u16; 81], cell: usize, digit: u8) -> bool
@@ -243,7 +243,7 @@ fn redo_refusal<'a>(
     slot: Slot,
     cells: [u8; 20],
 ) -> Refusal
-    requires { ⌜ (slot ≡ slotAt (now journal) (nextNumber made standing)) × (cells ≡ struckCells slot) ⌝ }
+    requires { ⌜ (slot ≡ slotAt (now journal) (slotToRedo made standing)) × (cells ≡ struckCells slot) ⌝ }
     ensures { λ r. ⌜ r ≡ slotRefusal (first (redoTests (whole (now (digits .entry)) (now (given .entry)) (now (notes .entry)) (now (solution .entry)) solved made standing checks) (now (journal .entry)))) (standing + 1) ⌝ }
 {
     let length = journal.len();
@@ -308,9 +308,9 @@ pub fn ask_undo<'a>(
     }
 }
 
-// The number of the next move to redo, and 0 where there is none.
-fn next_number(made: usize, standing: usize) -> usize
-    ensures { λ r. ⌜ r ≡ nextNumber made standing ⌝ }
+// The slot of the next move to redo, and 0 where there is none.
+fn slot_to_redo(made: usize, standing: usize) -> usize
+    ensures { λ r. ⌜ r ≡ slotToRedo made standing ⌝ }
 {
     if made <= standing {
         return 0;
@@ -330,9 +330,9 @@ pub fn ask_redo<'a>(
     checks: usize,
     journal: &[u8],
 ) -> Asked
-    ensures { λ r. ⌜ r ≡ askedOf (slotRefusal (first (redoTests (whole (now (digits .entry)) (now (given .entry)) (now (notes .entry)) (now (solution .entry)) solved made standing checks) (now (journal .entry)))) (standing + 1)) (slotAt (now (journal .entry)) (nextNumber made standing)) ⌝ }
+    ensures { λ r. ⌜ r ≡ askedOf (slotRefusal (first (redoTests (whole (now (digits .entry)) (now (given .entry)) (now (notes .entry)) (now (solution .entry)) solved made standing checks) (now (journal .entry)))) (standing + 1)) (slotAt (now (journal .entry)) (slotToRedo made standing)) ⌝ }
 {
-    let slot = slot_at(journal, next_number(made, standing));
+    let slot = slot_at(journal, slot_to_redo(made, standing));
     let cells = struck_cells(slot);
     let refused = redo_refusal(
         digits,

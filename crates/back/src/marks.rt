@@ -18,7 +18,7 @@ ghost use Rattle.board.specs.Board.{stateOf, countsOf, moved};
 ghost use Rattle.play.specs.Parts.{parts};
 ghost use Rattle.back.specs.Halves.{struckCells, marksBack, marksAgain};
 
-// The peers that a slot's mask speaks of. A mask of 0 asks for none, and twenty zeros stand for them: the table of peers costs most of a call that needs it.
+// The peers that a slot's mask speaks of. A mask of 0 asks for none, and twenty zeros stand for them, since the table of peers is laid out at every use.
 pub fn struck_cells(slot: Slot) -> [u8; 20]
     ensures { λ r. ⌜ r ≡ struckCells slot ⌝ }
 {

@@ -1,16 +1,16 @@
--- `back::asking::next_number` meets its contract.
+-- `back::asking::slot_to_redo` meets its contract.
 -- Assumes nothing.
 use mathlib.Core.Path.{sym}
 use borrow.Author.Tests.{le-leb}
 use Rattle.sudoku.proofs.Walks.{pick-true}
-use Rattle.back.specs.Halves.{nextNumber}
+use Rattle.back.specs.Halves.{slotToRedo}
 use Rattle.back.proofs.Parts.{next-standing}
 use borrow.Author.Needs.{needs}
-use Rattle.back.proofs.asking.next_number.Statement.{statement}
-use Rattle.back.proofs.asking.next_number.Tie as tie
+use Rattle.back.proofs.asking.slot_to_redo.Statement.{statement}
+use Rattle.back.proofs.asking.slot_to_redo.Tie as tie
 
 returns : tie.Need-returns
-unfolding nextNumber
+unfolding slotToRedo
 returns c = sym (pick-true _ _ _ (le-leb _ _ (c .if1 .taken)))
 
 add-result : tie.Need-add-result
@@ -19,5 +19,5 @@ add-result c = search needs
 returns-2 : tie.Need-returns-2
 returns-2 c = sym (next-standing _ _ (c .if1 .left))
 
-pub next-number-spec : {M : Type 1} → statement M
-next-number-spec = tie.close (tie.spec returns add-result returns-2)
+pub slot-to-redo-spec : {M : Type 1} → statement M
+slot-to-redo-spec = tie.close (tie.spec returns add-result returns-2)
