@@ -3,10 +3,10 @@
 -- Assumes nothing.
 use Prim.Native.Nat.{ℕ, _+_}
 use mathlib.Core.Bool.{Bool, not}
-use mathlib.Core.List.{List}
+use mathlib.Core.List.{List, [], _∷_}
 use lib.Dec.{eqb, leb}
 use lib.ListN.{replicate}
-use Rattle.sudoku.specs.Tests.{pick, both}
+use Rattle.sudoku.specs.Tests.{Test, _⇒_, pick, both}
 use Rattle.sudoku.specs.Grid.{cellOf, peersOf}
 use Rattle.note.specs.Note.{contains}
 use Rattle.journal.specs.declared.DigitChange.{DigitChange}
@@ -15,8 +15,8 @@ use Rattle.journal.specs.declared.Move.{Move}
 use Rattle.journal.specs.declared.Move.the-variants.{Place, Erase, WriteMark, StrikeMark}
 use Rattle.journal.specs.declared.Slot.{Slot}
 use Rattle.journal.specs.State.{State, withNotes, putDigit, digitAt, noteAt, writeAt, strikeAt, writeMasked, strikeMasked, everyMasked}
-use Rattle.puzzle.specs.declared.Refusal.{Refusal}
-use Rattle.back.specs.declared.Asked.{Asked}
+use Rattle.board.specs.declared.Board.{Board}
+use Rattle.play.specs.Play.{lentBy}
 
 -- the digit before, put back at a cell; a move that changes no digit changes nothing here
 unfoldable pub digitBack : State → ℕ → DigitChange → State
@@ -66,6 +66,9 @@ foundBy s (Erase row column) before mask cells = eqb (digitAt s (cellOf row colu
 foundBy s (WriteMark row column digit) before mask cells = not (contains (noteAt s (cellOf row column)) digit)
 foundBy s (StrikeMark row column digit) before mask cells = contains (noteAt s (cellOf row column)) digit
 
--- what a call found that takes a move back or makes it again: why it is refused, and the slot concerned with the peers of its mask
-unfoldable pub asked : Refusal → Slot → Asked
-asked refusal slot = record { refusal = refusal; slot = slot; cells = struckCells slot }
+-- the tests of undo and of redo that need no slot; 14 comes after them
+unfoldable pub undoBefore : Board → ℕ → List Test
+undoBefore b bytes = lentBy b bytes ((b .solved ⇒ 4) ∷ (eqb (b .standing) 0 ⇒ 12) ∷ [])
+
+unfoldable pub redoBefore : Board → ℕ → List Test
+redoBefore b bytes = lentBy b bytes ((b .solved ⇒ 4) ∷ (leb (b .made) (b .standing) ⇒ 13) ∷ [])

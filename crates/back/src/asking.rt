@@ -1,7 +1,4 @@
-// What undo and redo ask before they do anything: why the call is refused, which slot is concerned, and which peers its mask speaks of.
-// They ask it of a board's parts, in the order of the numbers.
-use crate::Asked;
-use crate::marks::struck_cells;
+// What undo and redo ask before they do anything, of a board's parts and in the order of the numbers: first what needs no slot, then whether the slot can be taken back or made again.
 use journal::Move;
 use journal::Slot;
 use journal::notes::masked_have;
@@ -9,27 +6,22 @@ use journal::notes::masked_lack;
 use journal::notes::note_at;
 use journal::slots::is_sound;
 use journal::slots::move_of;
-use journal::slots::slot_at;
 use play::numbers::number_of_lent;
-use puzzle::Refusal;
-use puzzle::answer::accepted;
-use puzzle::answer::refusal;
 use puzzle::digit_at;
 use sudoku::cell_of;
 ghost use mathlib.Core.Path.{_≡_};
 ghost use mathlib.Core.Bool.{false, not};
 ghost use mathlib.Core.List.{[]};
-ghost use Prim.Native.Nat.{_+_};
+ghost use Prim.Native.Nat.{_<_};
 ghost use lib.Dec.{eqb};
 ghost use Rattle.sudoku.specs.Tests.{first, both};
 ghost use Rattle.sudoku.specs.Grid.{at};
 ghost use Rattle.note.specs.Note.{contains};
 ghost use Rattle.journal.specs.State.{everyMasked};
-ghost use Rattle.journal.specs.Slots.{slotAt};
+ghost use Rattle.journal.specs.Slots.{moveOf, soundFor};
 ghost use Rattle.board.specs.Board.{whole};
 ghost use Rattle.play.specs.Parts.{parts};
-ghost use Rattle.play.specs.Play.{slotRefusal, canTakeBack, canRetake, undoTests, redoTests};
-ghost use Rattle.back.specs.Halves.{slotToRedo, struckCells, leftBy, foundBy, asked as askedOf};
+ghost use Rattle.back.specs.Halves.{slotToRedo, leftBy, foundBy, undoBefore, redoBefore};
 
 // Whether the mark stands in the kept note of a cell.
 fn has_mark(notes: &[u16; 81], cell: usize, digit: u8) -> bool
@@ -94,7 +86,7 @@ fn place_found<'a>(
 }
 
 // The digit and the marks that a recorded move changed stand as the move left them.
-fn stands_as_left<'a>(
+pub fn stands_as_left<'a>(
     digits: &'a [u8; 81],
     notes: &'a [u16; 81],
     m: Move,
@@ -119,7 +111,7 @@ fn stands_as_left<'a>(
 }
 
 // They stand as the move found them.
-fn stands_as_found<'a>(
+pub fn stands_as_found<'a>(
     digits: &'a [u8; 81],
     notes: &'a [u16; 81],
     m: Move,
@@ -146,15 +138,14 @@ fn stands_as_found<'a>(
 }
 
 // 14 of undo: the slot is sound, and what it changed stands as the move left it. `cells` are the peers that its mask speaks of.
-fn can_take_back<'a>(
+pub fn can_take_back<'a>(
     digits: &'a [u8; 81],
     given: &'a [bool; 81],
     notes: &'a [u16; 81],
     slot: Slot,
     cells: [u8; 20],
 ) -> bool
-    requires { ⌜ cells ≡ struckCells slot ⌝ }
-    ensures { λ r. ⌜ r ≡ canTakeBack (parts (now (given .entry)) (now (digits .entry)) (now (notes .entry)) false) slot ⌝ }
+    ensures { λ r. ⌜ r ≡ both (soundFor (now (given .entry)) slot) (leftBy (parts [] (now (digits .entry)) (now (notes .entry)) false) (moveOf slot) (slot .struck) cells) ⌝ }
 {
     if is_sound(given, slot) {
         return stands_as_left(digits, notes, move_of(slot), slot.struck, cells);
@@ -163,15 +154,14 @@ fn can_take_back<'a>(
 }
 
 // 14 of redo: the slot is sound, and what it changes stands as the move found it. `cells` are the peers that its mask speaks of.
-fn can_retake<'a>(
+pub fn can_retake<'a>(
     digits: &'a [u8; 81],
     given: &'a [bool; 81],
     notes: &'a [u16; 81],
     slot: Slot,
     cells: [u8; 20],
 ) -> bool
-    requires { ⌜ cells ≡ struckCells slot ⌝ }
-    ensures { λ r. ⌜ r ≡ canRetake (parts (now (given .entry)) (now (digits .entry)) (now (notes .entry)) false) slot ⌝ }
+    ensures { λ r. ⌜ r ≡ both (soundFor (now (given .entry)) slot) (foundBy (parts [] (now (digits .entry)) (now (notes .entry)) false) (moveOf slot) (slot .before) (slot .struck) cells) ⌝ }
 {
     if is_sound(given, slot) {
         return stands_as_found(
@@ -186,8 +176,8 @@ fn can_retake<'a>(
     false
 }
 
-// Why undo is refused: 1 2 4 12 14, the last with the slot's number as its place. The slot and its peers are the call's.
-fn undo_refusal<'a>(
+// Why undo is refused before its slot is asked: 1 2 4 12. 0 where it is not.
+pub fn number_of_undo<'a>(
     digits: &'a [u8; 81],
     given: &'a [bool; 81],
     notes: &'a [u16; 81],
@@ -196,14 +186,10 @@ fn undo_refusal<'a>(
     made: usize,
     standing: usize,
     checks: usize,
-    journal: &[u8],
-    slot: Slot,
-    cells: [u8; 20],
-) -> Refusal
-    requires { ⌜ (slot ≡ slotAt (now journal) standing) × (cells ≡ struckCells slot) ⌝ }
-    ensures { λ r. ⌜ r ≡ slotRefusal (first (undoTests (whole (now (digits .entry)) (now (given .entry)) (now (notes .entry)) (now (solution .entry)) solved made standing checks) (now (journal .entry)))) standing ⌝ }
+    bytes: usize,
+) -> u8
+    ensures { λ r. ⌜ (r ≡ first (undoBefore (whole (now (digits .entry)) (now (given .entry)) (now (notes .entry)) (now (solution .entry)) solved made standing checks) bytes)) × (r < 14) ⌝ }
 {
-    let length = journal.len();
     let lent = number_of_lent(
         digits,
         given,
@@ -212,25 +198,22 @@ fn undo_refusal<'a>(
         made,
         standing,
         checks,
-        length,
+        bytes,
     );
     if lent != 0 {
-        return refusal(lent, 0, 0);
+        return lent;
     }
     if solved {
-        return refusal(4, 0, 0);
+        return 4;
     }
     if standing == 0 {
-        return refusal(12, 0, 0);
+        return 12;
     }
-    if !can_take_back(digits, given, notes, slot, cells) {
-        return refusal(14, standing, 0);
-    }
-    accepted()
+    0
 }
 
-// Why redo is refused: 1 2 4 13 14, the last with the slot's number as its place. The slot and its peers are the call's.
-fn redo_refusal<'a>(
+// Why redo is refused before its slot is asked: 1 2 4 13. 0 where it is not.
+pub fn number_of_redo<'a>(
     digits: &'a [u8; 81],
     given: &'a [bool; 81],
     notes: &'a [u16; 81],
@@ -239,14 +222,10 @@ fn redo_refusal<'a>(
     made: usize,
     standing: usize,
     checks: usize,
-    journal: &[u8],
-    slot: Slot,
-    cells: [u8; 20],
-) -> Refusal
-    requires { ⌜ (slot ≡ slotAt (now journal) (slotToRedo made standing)) × (cells ≡ struckCells slot) ⌝ }
-    ensures { λ r. ⌜ r ≡ slotRefusal (first (redoTests (whole (now (digits .entry)) (now (given .entry)) (now (notes .entry)) (now (solution .entry)) solved made standing checks) (now (journal .entry)))) (standing + 1) ⌝ }
+    bytes: usize,
+) -> u8
+    ensures { λ r. ⌜ (r ≡ first (redoBefore (whole (now (digits .entry)) (now (given .entry)) (now (notes .entry)) (now (solution .entry)) solved made standing checks) bytes)) × (r < 14) ⌝ }
 {
-    let length = journal.len();
     let lent = number_of_lent(
         digits,
         given,
@@ -255,101 +234,26 @@ fn redo_refusal<'a>(
         made,
         standing,
         checks,
-        length,
+        bytes,
     );
     if lent != 0 {
-        return refusal(lent, 0, 0);
+        return lent;
     }
     if solved {
-        return refusal(4, 0, 0);
+        return 4;
     }
     if made <= standing {
-        return refusal(13, 0, 0);
+        return 13;
     }
-    if !can_retake(digits, given, notes, slot, cells) {
-        return refusal(14, standing + 1, 0);
-    }
-    accepted()
-}
-
-// What undo asks of a board's parts.
-pub fn ask_undo<'a>(
-    digits: &'a [u8; 81],
-    given: &'a [bool; 81],
-    notes: &'a [u16; 81],
-    solution: &'a [u8; 81],
-    solved: bool,
-    made: usize,
-    standing: usize,
-    checks: usize,
-    journal: &[u8],
-) -> Asked
-    ensures { λ r. ⌜ r ≡ askedOf (slotRefusal (first (undoTests (whole (now (digits .entry)) (now (given .entry)) (now (notes .entry)) (now (solution .entry)) solved made standing checks) (now (journal .entry)))) standing) (slotAt (now (journal .entry)) standing) ⌝ }
-{
-    let slot = slot_at(journal, standing);
-    let cells = struck_cells(slot);
-    let refused = undo_refusal(
-        digits,
-        given,
-        notes,
-        solution,
-        solved,
-        made,
-        standing,
-        checks,
-        journal,
-        slot,
-        cells,
-    );
-    Asked {
-        refusal: refused,
-        slot: slot,
-        cells: cells,
-    }
+    0
 }
 
 // The slot of the next move to redo, and 0 where there is none.
-fn slot_to_redo(made: usize, standing: usize) -> usize
+pub fn slot_to_redo(made: usize, standing: usize) -> usize
     ensures { λ r. ⌜ r ≡ slotToRedo made standing ⌝ }
 {
     if made <= standing {
         return 0;
     }
     standing + 1
-}
-
-// What redo asks of a board's parts.
-pub fn ask_redo<'a>(
-    digits: &'a [u8; 81],
-    given: &'a [bool; 81],
-    notes: &'a [u16; 81],
-    solution: &'a [u8; 81],
-    solved: bool,
-    made: usize,
-    standing: usize,
-    checks: usize,
-    journal: &[u8],
-) -> Asked
-    ensures { λ r. ⌜ r ≡ askedOf (slotRefusal (first (redoTests (whole (now (digits .entry)) (now (given .entry)) (now (notes .entry)) (now (solution .entry)) solved made standing checks) (now (journal .entry)))) (standing + 1)) (slotAt (now (journal .entry)) (slotToRedo made standing)) ⌝ }
-{
-    let slot = slot_at(journal, slot_to_redo(made, standing));
-    let cells = struck_cells(slot);
-    let refused = redo_refusal(
-        digits,
-        given,
-        notes,
-        solution,
-        solved,
-        made,
-        standing,
-        checks,
-        journal,
-        slot,
-        cells,
-    );
-    Asked {
-        refusal: refused,
-        slot: slot,
-        cells: cells,
-    }
 }

@@ -4,30 +4,27 @@ pub mod asking;
 pub mod digits;
 pub mod marks;
 
-use asking::ask_redo;
-use asking::ask_undo;
+use asking::can_retake;
+use asking::can_take_back;
+use asking::number_of_redo;
+use asking::number_of_undo;
+use asking::slot_to_redo;
 use board::Answer;
 use board::Board;
 use digits::put_again;
 use digits::put_back;
 use journal::Counts;
-use journal::Slot;
 use journal::slots::move_of;
+use journal::slots::slot_at;
 use journal::steps::after_retake;
 use journal::steps::after_take_back;
 use marks::give_back;
+use marks::struck_cells;
 use marks::take_again;
-use puzzle::Refusal;
 use puzzle::answer::accepted;
+use puzzle::answer::refusal;
 ghost use mathlib.Core.Path.{_≡_};
 ghost use Rattle.play.specs.Play.{undoOf, redoOf};
-
-// What undo or redo found before it does anything: why it is refused, the slot concerned, and the peers that its mask speaks of; the last two are the call's, refused or not.
-pub struct Asked {
-    pub refusal: Refusal,
-    pub slot: Slot,
-    pub cells: [u8; 20],
-}
 
 // Takes back the latest standing move. Refused by 1 2 4 12 14.
 pub fn undo(board: Board, journal: &[u8]) -> Answer
@@ -37,7 +34,7 @@ pub fn undo(board: Board, journal: &[u8]) -> Answer
         refusal: accepted(),
         board: board,
     };
-    let asked = ask_undo(
+    let n = number_of_undo(
         &answer.board.digits,
         &answer.board.given,
         &answer.board.notes,
@@ -46,15 +43,24 @@ pub fn undo(board: Board, journal: &[u8]) -> Answer
         board.made,
         board.standing,
         board.checks,
-        journal,
+        journal.len(),
     );
-    let refused = asked.refusal;
-    if refused.number != 0 {
-        answer.refusal = refused;
+    if n != 0 {
+        answer.refusal = refusal(n, 0, 0);
         return answer;
     }
-    let slot = asked.slot;
-    let cells = asked.cells;
+    let slot = slot_at(journal, board.standing);
+    let cells = struck_cells(slot);
+    if !can_take_back(
+        &answer.board.digits,
+        &answer.board.given,
+        &answer.board.notes,
+        slot,
+        cells,
+    ) {
+        answer.refusal = refusal(14, board.standing, 0);
+        return answer;
+    }
     let counts = after_take_back(Counts {
         made: board.made,
         standing: board.standing,
@@ -75,7 +81,7 @@ pub fn redo(board: Board, journal: &[u8]) -> Answer
         refusal: accepted(),
         board: board,
     };
-    let asked = ask_redo(
+    let n = number_of_redo(
         &answer.board.digits,
         &answer.board.given,
         &answer.board.notes,
@@ -84,15 +90,25 @@ pub fn redo(board: Board, journal: &[u8]) -> Answer
         board.made,
         board.standing,
         board.checks,
-        journal,
+        journal.len(),
     );
-    let refused = asked.refusal;
-    if refused.number != 0 {
-        answer.refusal = refused;
+    if n != 0 {
+        answer.refusal = refusal(n, 0, 0);
         return answer;
     }
-    let slot = asked.slot;
-    let cells = asked.cells;
+    let next = slot_to_redo(board.made, board.standing);
+    let slot = slot_at(journal, next);
+    let cells = struck_cells(slot);
+    if !can_retake(
+        &answer.board.digits,
+        &answer.board.given,
+        &answer.board.notes,
+        slot,
+        cells,
+    ) {
+        answer.refusal = refusal(14, next, 0);
+        return answer;
+    }
     let counts = after_retake(Counts {
         made: board.made,
         standing: board.standing,

@@ -2,3 +2,4 @@ pub mod Kept
 pub mod Played
 pub mod Back
 pub mod Checked
+pub mod DigitAlone

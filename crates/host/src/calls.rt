@@ -5,15 +5,19 @@ use crate::HostChecked;
 use crate::flag_of;
 use crate::flags_in;
 use crate::made_in;
-use back::asking::ask_redo;
-use back::asking::ask_undo;
+use crate::plain::can_retake;
+use crate::plain::can_take_back;
+use crate::plain::give_slot_back;
+use crate::plain::take_slot_again;
+use back::asking::number_of_redo;
+use back::asking::number_of_undo;
+use back::asking::slot_to_redo;
 use back::digits::put_again;
 use back::digits::put_back;
-use back::marks::give_back;
-use back::marks::take_again;
+use back::marks::struck_cells;
 use journal::Counts;
 use journal::Move;
-use journal::slots::move_of;
+use journal::slots::slot_at;
 use journal::slots::write_slot;
 use journal::steps::after_record;
 use journal::steps::after_retake;
@@ -83,7 +87,7 @@ pub fn undo(board: HostBoard, journal: &[u8]) -> HostAnswer
     let solved = board.solved == 1;
     let given = flags_in(&answer.board.given);
     let made = made_in(&answer.board.given, board.solved, board.made);
-    let asked = ask_undo(
+    let n = number_of_undo(
         &answer.board.digits,
         &given,
         &answer.board.notes,
@@ -92,21 +96,30 @@ pub fn undo(board: HostBoard, journal: &[u8]) -> HostAnswer
         made,
         board.standing,
         board.checks,
-        journal,
+        journal.len(),
     );
-    let refused = asked.refusal;
-    if refused.number != 0 {
-        answer.refusal = refused;
+    if n != 0 {
+        answer.refusal = refusal(n, 0, 0);
         return answer;
     }
-    let slot = asked.slot;
-    let cells = asked.cells;
+    let slot = slot_at(journal, board.standing);
+    let cells = struck_cells(slot);
+    if !can_take_back(
+        &answer.board.digits,
+        &given,
+        &answer.board.notes,
+        slot,
+        cells,
+    ) {
+        answer.refusal = refusal(14, board.standing, 0);
+        return answer;
+    }
     let counts = after_take_back(Counts {
         made: made,
         standing: board.standing,
     });
     let status = put_back(&mut answer.board.digits, solved, slot);
-    give_back(&mut answer.board.notes, move_of(slot), slot.struck, cells);
+    give_slot_back(&mut answer.board.notes, slot, cells);
     answer.board.solved = flag_of(status);
     answer.board.made = counts.made;
     answer.board.standing = counts.standing;
@@ -124,7 +137,7 @@ pub fn redo(board: HostBoard, journal: &[u8]) -> HostAnswer
     let solved = board.solved == 1;
     let given = flags_in(&answer.board.given);
     let made = made_in(&answer.board.given, board.solved, board.made);
-    let asked = ask_redo(
+    let n = number_of_redo(
         &answer.board.digits,
         &given,
         &answer.board.notes,
@@ -133,21 +146,31 @@ pub fn redo(board: HostBoard, journal: &[u8]) -> HostAnswer
         made,
         board.standing,
         board.checks,
-        journal,
+        journal.len(),
     );
-    let refused = asked.refusal;
-    if refused.number != 0 {
-        answer.refusal = refused;
+    if n != 0 {
+        answer.refusal = refusal(n, 0, 0);
         return answer;
     }
-    let slot = asked.slot;
-    let cells = asked.cells;
+    let next = slot_to_redo(made, board.standing);
+    let slot = slot_at(journal, next);
+    let cells = struck_cells(slot);
+    if !can_retake(
+        &answer.board.digits,
+        &given,
+        &answer.board.notes,
+        slot,
+        cells,
+    ) {
+        answer.refusal = refusal(14, next, 0);
+        return answer;
+    }
     let counts = after_retake(Counts {
         made: made,
         standing: board.standing,
     });
     let status = put_again(&mut answer.board.digits, solved, slot);
-    take_again(&mut answer.board.notes, move_of(slot), slot.struck, cells);
+    take_slot_again(&mut answer.board.notes, slot, cells);
     answer.board.solved = flag_of(status);
     answer.board.made = counts.made;
     answer.board.standing = counts.standing;

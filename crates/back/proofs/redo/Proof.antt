@@ -1,18 +1,18 @@
--- `back::redo` meets its contract: the digit with the status, and the marks, are the whole. Where it is accepted there is a next move.
+-- `back::redo` meets its contract: the digit with the status, and the marks, are the whole.
 -- Assumes nothing.
+use mathlib.Core.Path.{_≡_, sym, ap, _∙_}
+use mathlib.Core.Bool.{not}
 use Prim.Native.Nat.{_+_}
-use mathlib.Core.Path.{sym, ap, _∙_}
 use Rattle.puzzle.specs.Refusals.{accepted}
 use Rattle.journal.specs.State.{State}
 use Rattle.journal.specs.Counts.{retaken}
 use Rattle.journal.specs.Slots.{slotAt}
 use Rattle.board.specs.Board.{stateOf, countsOf, boardOf, moved}
 use Rattle.board.specs.Open.{answer}
-use Rattle.play.specs.Play.{slotRefusal, redone}
-use Rattle.play.proofs.Accepted.{redo-refused, redo-made, redo-below}
-use Rattle.back.specs.declared.Asked.{Asked}
-use Rattle.back.specs.Halves.{asked}
+use Rattle.play.specs.Play.{canRetake, redone}
+use Rattle.play.proofs.Accepted.{redo-made}
 use Rattle.back.proofs.Parts.{again-parts, next-standing}
+use Rattle.back.proofs.Before.{retake-parts, redo-stopped, redo-unfit, redo-fit, redo-more}
 use borrow.Author.Needs.{needs}
 use Rattle.back.proofs.redo.Statement.{statement}
 use Rattle.back.proofs.redo.Tie as tie
@@ -20,15 +20,37 @@ use Rattle.back.proofs.redo.Tie as tie
 accepted-requires : tie.Need-accepted-requires
 accepted-requires c κs = search needs
 
-ask-redo-requires : tie.Need-ask-redo-requires
-ask-redo-requires c κs = search needs
+number-of-redo-requires : tie.Need-number-of-redo-requires
+number-of-redo-requires c κs = search needs
+
+refusal-requires : tie.Need-refusal-requires
+refusal-requires c κs = search needs
 
 returns : tie.Need-returns
-unfolding slotRefusal asked
-returns c =
-    let a = c .before .before .before .before .before .before .before .before .before .before .before .args in
-    let n = ap (λ (x : Asked). x .refusal .number) (c .before .before .before .ask-redo .ensures) in
-    rw (c .before .before .before .ask-redo .ensures) (redo-refused (a .board) (a .journal .now) (λ p. c .if1 .taken (n ∙ p)))
+returns c = rw (c .refusal .ensures) (redo-stopped (c .before .before .before .before .before .before .before .before .before .before .args .board) (c .before .before .before .before .before .before .before .before .before .before .args .journal .now) _ (c .before .before .number-of-redo .ensures .0) (c .before .before .number-of-redo .ensures .1) (c .before .if1 .taken))
+
+slot-to-redo-requires : tie.Need-slot-to-redo-requires
+slot-to-redo-requires c κs = search needs
+
+slot-at-requires : tie.Need-slot-at-requires
+slot-at-requires c κs = search needs
+
+struck-cells-requires : tie.Need-struck-cells-requires
+struck-cells-requires c κs = search needs
+
+can-retake-requires : tie.Need-can-retake-requires
+can-retake-requires c κs = search needs
+
+refusal-requires-2 : tie.Need-refusal-requires-2
+refusal-requires-2 c κs = search needs
+
+returns-2 : tie.Need-returns-2
+unfolding stateOf
+returns-2 c =
+    let a = c .before .before .before .before .before .before .before .before .before .before .before .before .before .before .before .before .before .before .before .args in
+    let nth = c .before .before .before .before .before .before .before .before .before .slot-to-redo .ensures ∙ next-standing (a .board .made) (a .board .standing) (redo-more (a .board) (a .journal .now) _ (c .before .before .before .before .before .before .before .before .before .before .before .number-of-redo .ensures .0) (c .before .before .before .before .before .before .before .before .before .before .if1 .left)) in
+    let ok : canRetake (stateOf (a .board)) (slotAt (a .journal .now) (a .board .standing + 1)) ≡ _ = sym ((rw (c .before .before .before .before .before .before .before .struck-cells .ensures, c .before .before .before .before .before .before .before .before .slot-at .ensures, nth) at (c .before .before .can-retake .ensures)) ∙ retake-parts (stateOf (a .board)) (slotAt (a .journal .now) (a .board .standing + 1))) in
+    rw (c .refusal2 .ensures, nth) (redo-unfit (a .board) (a .journal .now) _ (c .before .before .before .before .before .before .before .before .before .before .before .number-of-redo .ensures .0) (c .before .before .before .before .before .before .before .before .before .before .if1 .left) (ap not ok ∙ c .before .if2 .taken))
 
 after-retake-requires : tie.Need-after-retake-requires
 after-retake-requires c κs = search needs
@@ -42,14 +64,32 @@ move-of-requires c κs = search needs
 take-again-requires : tie.Need-take-again-requires
 take-again-requires c κs = search needs
 
-returns-2 : tie.Need-returns-2
-unfolding slotRefusal asked redone moved boardOf stateOf countsOf
-returns-2 c =
-    let a = c .before .before .before .before .before .before .before .before .before .before .before .before .before .before .before .before .before .before .before .before .before .before .args in
-    let n = ap (λ (x : Asked). x .refusal .number) (c .before .before .before .before .before .before .before .before .before .before .before .before .before .before .ask-redo .ensures) in
-    let none = sym n ∙ c .before .before .before .before .before .before .before .before .before .before .before .if1 .left in
-    rw (c .before .before .before .before .before .before .before .before .before .before .before .before .before .before .before .before .before .before .before .before .accepted .ensures, c .before .before .before .take-again .ensures, c .before .before .before .before .move-of .ensures, c .before .before .before .before .before .before .put-again .ensures .0, c .before .before .before .before .before .before .put-again .ensures .1, c .before .before .before .before .before .before .before .before .after-retake .ensures, c .before .before .before .before .before .before .before .before .before .before .before .before .before .before .ask-redo .ensures, next-standing (a .board .made) (a .board .standing) (redo-below (a .board) (a .journal .now) none .0))
+returns-3 : tie.Need-returns-3
+unfolding redone moved boardOf stateOf countsOf
+returns-3 c =
+    let a = c .before .before .before .before .before .before .before .before .before .before .before .before .before .before .before .before .before .before .before .before .before .before .before .before .before .before .before .args in
+    let nth = c .before .before .before .before .before .before .before .before .before .before .before .before .before .before .before .before .before .slot-to-redo .ensures ∙ next-standing (a .board .made) (a .board .standing) (redo-more (a .board) (a .journal .now) _ (c .before .before .before .before .before .before .before .before .before .before .before .before .before .before .before .before .before .before .before .number-of-redo .ensures .0) (c .before .before .before .before .before .before .before .before .before .before .before .before .before .before .before .before .before .before .if1 .left)) in
+    let ok : canRetake (stateOf (a .board)) (slotAt (a .journal .now) (a .board .standing + 1)) ≡ _ = sym ((rw (c .before .before .before .before .before .before .before .before .before .before .before .before .before .before .before .struck-cells .ensures, c .before .before .before .before .before .before .before .before .before .before .before .before .before .before .before .before .slot-at .ensures, nth) at (c .before .before .before .before .before .before .before .before .before .before .can-retake .ensures)) ∙ retake-parts (stateOf (a .board)) (slotAt (a .journal .now) (a .board .standing + 1))) in
+    let none = redo-fit (a .board) (a .journal .now) _ (c .before .before .before .before .before .before .before .before .before .before .before .before .before .before .before .before .before .before .before .number-of-redo .ensures .0) (c .before .before .before .before .before .before .before .before .before .before .before .before .before .before .before .before .before .before .if1 .left) (ap not ok ∙ c .before .before .before .before .before .before .before .before .before .if2 .left) in
+    rw (c .before .before .before .before .before .before .before .before .before .before .before .before .before .before .before .before .before .before .before .before .before .before .before .before .before .accepted .ensures, c .before .before .before .take-again .ensures, c .before .before .before .before .move-of .ensures, c .before .before .before .before .before .before .put-again .ensures .0, c .before .before .before .before .before .before .put-again .ensures .1, c .before .before .before .before .before .before .before .before .after-retake .ensures, c .before .before .before .before .before .before .before .before .before .before .before .before .before .before .before .struck-cells .ensures, c .before .before .before .before .before .before .before .before .before .before .before .before .before .before .before .before .slot-at .ensures, nth)
     (ap (λ (s : State). answer accepted (moved (a .board) s (retaken (countsOf (a .board))))) (again-parts (stateOf (a .board)) (slotAt (a .journal .now) (a .board .standing + 1))) ∙ redo-made (a .board) (a .journal .now) none)
 
 pub redo-spec : {M : Type 1} → statement M
-redo-spec = tie.close (tie.spec accepted-requires ask-redo-requires returns after-retake-requires put-again-requires move-of-requires take-again-requires returns-2)
+redo-spec =
+    tie.close
+    (tie.spec
+    accepted-requires
+    number-of-redo-requires
+    refusal-requires
+    returns
+    slot-to-redo-requires
+    slot-at-requires
+    struck-cells-requires
+    can-retake-requires
+    refusal-requires-2
+    returns-2
+    after-retake-requires
+    put-again-requires
+    move-of-requires
+    take-again-requires
+    returns-3)

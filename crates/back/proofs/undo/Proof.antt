@@ -1,17 +1,17 @@
 -- `back::undo` meets its contract: the digit with the status, and the marks, are the whole.
 -- Assumes nothing.
-use mathlib.Core.Path.{sym, ap, _∙_}
+use mathlib.Core.Path.{_≡_, sym, ap, _∙_}
+use mathlib.Core.Bool.{not}
 use Rattle.puzzle.specs.Refusals.{accepted}
 use Rattle.journal.specs.State.{State}
 use Rattle.journal.specs.Counts.{takenBack}
 use Rattle.journal.specs.Slots.{slotAt}
 use Rattle.board.specs.Board.{stateOf, countsOf, boardOf, moved}
 use Rattle.board.specs.Open.{answer}
-use Rattle.play.specs.Play.{slotRefusal, undone}
-use Rattle.play.proofs.Accepted.{undo-refused, undo-made}
-use Rattle.back.specs.declared.Asked.{Asked}
-use Rattle.back.specs.Halves.{asked}
+use Rattle.play.specs.Play.{canTakeBack, undone}
+use Rattle.play.proofs.Accepted.{undo-made}
 use Rattle.back.proofs.Parts.{back-parts}
+use Rattle.back.proofs.Before.{take-back-parts, undo-stopped, undo-unfit, undo-fit}
 use borrow.Author.Needs.{needs}
 use Rattle.back.proofs.undo.Statement.{statement}
 use Rattle.back.proofs.undo.Tie as tie
@@ -19,15 +19,33 @@ use Rattle.back.proofs.undo.Tie as tie
 accepted-requires : tie.Need-accepted-requires
 accepted-requires c κs = search needs
 
-ask-undo-requires : tie.Need-ask-undo-requires
-ask-undo-requires c κs = search needs
+number-of-undo-requires : tie.Need-number-of-undo-requires
+number-of-undo-requires c κs = search needs
+
+refusal-requires : tie.Need-refusal-requires
+refusal-requires c κs = search needs
 
 returns : tie.Need-returns
-unfolding slotRefusal asked
-returns c =
-    let a = c .before .before .before .before .before .before .before .before .before .before .before .args in
-    let n = ap (λ (x : Asked). x .refusal .number) (c .before .before .before .ask-undo .ensures) in
-    rw (c .before .before .before .ask-undo .ensures) (undo-refused (a .board) (a .journal .now) (λ p. c .if1 .taken (n ∙ p)))
+returns c = rw (c .refusal .ensures) (undo-stopped (c .before .before .before .before .before .before .before .before .before .before .args .board) (c .before .before .before .before .before .before .before .before .before .before .args .journal .now) _ (c .before .before .number-of-undo .ensures .0) (c .before .before .number-of-undo .ensures .1) (c .before .if1 .taken))
+
+slot-at-requires : tie.Need-slot-at-requires
+slot-at-requires c κs = search needs
+
+struck-cells-requires : tie.Need-struck-cells-requires
+struck-cells-requires c κs = search needs
+
+can-take-back-requires : tie.Need-can-take-back-requires
+can-take-back-requires c κs = search needs
+
+refusal-requires-2 : tie.Need-refusal-requires-2
+refusal-requires-2 c κs = search needs
+
+returns-2 : tie.Need-returns-2
+unfolding stateOf
+returns-2 c =
+    let a = c .before .before .before .before .before .before .before .before .before .before .before .before .before .before .before .before .before .before .args in
+    let ok : canTakeBack (stateOf (a .board)) (slotAt (a .journal .now) (a .board .standing)) ≡ _ = sym ((rw (c .before .before .before .before .before .before .before .struck-cells .ensures, c .before .before .before .before .before .before .before .before .slot-at .ensures) at (c .before .before .can-take-back .ensures)) ∙ take-back-parts (stateOf (a .board)) (slotAt (a .journal .now) (a .board .standing))) in
+    rw (c .refusal2 .ensures) (undo-unfit (a .board) (a .journal .now) _ (c .before .before .before .before .before .before .before .before .before .before .number-of-undo .ensures .0) (c .before .before .before .before .before .before .before .before .before .if1 .left) (ap not ok ∙ c .before .if2 .taken))
 
 after-take-back-requires : tie.Need-after-take-back-requires
 after-take-back-requires c κs = search needs
@@ -41,14 +59,30 @@ move-of-requires c κs = search needs
 give-back-requires : tie.Need-give-back-requires
 give-back-requires c κs = search needs
 
-returns-2 : tie.Need-returns-2
-unfolding slotRefusal asked undone moved boardOf stateOf countsOf
-returns-2 c =
-    let a = c .before .before .before .before .before .before .before .before .before .before .before .before .before .before .before .before .before .before .before .before .before .before .args in
-    let n = ap (λ (x : Asked). x .refusal .number) (c .before .before .before .before .before .before .before .before .before .before .before .before .before .before .ask-undo .ensures) in
-    let none = sym n ∙ c .before .before .before .before .before .before .before .before .before .before .before .if1 .left in
-    rw (c .before .before .before .before .before .before .before .before .before .before .before .before .before .before .before .before .before .before .before .before .accepted .ensures, c .before .before .before .give-back .ensures, c .before .before .before .before .move-of .ensures, c .before .before .before .before .before .before .put-back .ensures .0, c .before .before .before .before .before .before .put-back .ensures .1, c .before .before .before .before .before .before .before .before .after-take-back .ensures, c .before .before .before .before .before .before .before .before .before .before .before .before .before .before .ask-undo .ensures)
+returns-3 : tie.Need-returns-3
+unfolding undone moved boardOf stateOf countsOf
+returns-3 c =
+    let a = c .before .before .before .before .before .before .before .before .before .before .before .before .before .before .before .before .before .before .before .before .before .before .before .before .before .before .args in
+    let ok : canTakeBack (stateOf (a .board)) (slotAt (a .journal .now) (a .board .standing)) ≡ _ = sym ((rw (c .before .before .before .before .before .before .before .before .before .before .before .before .before .before .before .struck-cells .ensures, c .before .before .before .before .before .before .before .before .before .before .before .before .before .before .before .before .slot-at .ensures) at (c .before .before .before .before .before .before .before .before .before .before .can-take-back .ensures)) ∙ take-back-parts (stateOf (a .board)) (slotAt (a .journal .now) (a .board .standing))) in
+    let none = undo-fit (a .board) (a .journal .now) _ (c .before .before .before .before .before .before .before .before .before .before .before .before .before .before .before .before .before .before .number-of-undo .ensures .0) (c .before .before .before .before .before .before .before .before .before .before .before .before .before .before .before .before .before .if1 .left) (ap not ok ∙ c .before .before .before .before .before .before .before .before .before .if2 .left) in
+    rw (c .before .before .before .before .before .before .before .before .before .before .before .before .before .before .before .before .before .before .before .before .before .before .before .before .accepted .ensures, c .before .before .before .give-back .ensures, c .before .before .before .before .move-of .ensures, c .before .before .before .before .before .before .put-back .ensures .0, c .before .before .before .before .before .before .put-back .ensures .1, c .before .before .before .before .before .before .before .before .after-take-back .ensures, c .before .before .before .before .before .before .before .before .before .before .before .before .before .before .before .struck-cells .ensures, c .before .before .before .before .before .before .before .before .before .before .before .before .before .before .before .before .slot-at .ensures)
     (ap (λ (s : State). answer accepted (moved (a .board) s (takenBack (countsOf (a .board))))) (back-parts (stateOf (a .board)) (slotAt (a .journal .now) (a .board .standing))) ∙ undo-made (a .board) (a .journal .now) none)
 
 pub undo-spec : {M : Type 1} → statement M
-undo-spec = tie.close (tie.spec accepted-requires ask-undo-requires returns after-take-back-requires put-back-requires move-of-requires give-back-requires returns-2)
+undo-spec =
+    tie.close
+    (tie.spec
+    accepted-requires
+    number-of-undo-requires
+    refusal-requires
+    returns
+    slot-at-requires
+    struck-cells-requires
+    can-take-back-requires
+    refusal-requires-2
+    returns-2
+    after-take-back-requires
+    put-back-requires
+    move-of-requires
+    give-back-requires
+    returns-3)

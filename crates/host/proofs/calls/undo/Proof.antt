@@ -1,15 +1,15 @@
 -- `host::calls::undo` meets its contract. A refused call hands the host's board back.
 -- Assumes nothing.
 use mathlib.Core.Path.{_≡_, sym, ap, _∙_}
-use lib.Dec.{eqb}
+use mathlib.Core.Bool.{not}
+use native.Mathlib.Omega.{arith}
 use lib.ListN.{length}
-use Rattle.sudoku.specs.Tests.{first, pick}
 use Rattle.journal.specs.Slots.{slotAt}
 use Rattle.board.specs.Board.{stateOf, isBoard}
-use Rattle.play.specs.Play.{lentTests, slotRefusal, undoTests}
-use Rattle.play.proofs.Accepted.{undo-refused, undo-made}
-use Rattle.back.specs.declared.Asked.{Asked}
-use Rattle.back.specs.Halves.{asked}
+use Rattle.play.specs.Play.{lentBy, canTakeBack}
+use Rattle.play.proofs.Accepted.{undo-made}
+use Rattle.back.specs.Halves.{undoBefore}
+use Rattle.back.proofs.Before.{take-back-parts, undo-stopped, undo-unfit, undo-fit}
 use Rattle.host.specs.Host.{hasFlags, madeIn, boardIn, answered}
 use Rattle.host.proofs.Kept.{flags-kept, counted-flags, answered-refused}
 use Rattle.host.proofs.Back.{undo-counted, undo-left}
@@ -26,17 +26,42 @@ flags-in-requires c κs = search needs
 made-in-requires : tie.Need-made-in-requires
 made-in-requires c κs = search needs
 
-ask-undo-requires : tie.Need-ask-undo-requires
-ask-undo-requires c κs = search needs
+number-of-undo-requires : tie.Need-number-of-undo-requires
+number-of-undo-requires c κs = search needs
+
+refusal-requires : tie.Need-refusal-requires
+refusal-requires c κs = search needs
 
 returns : tie.Need-returns
-unfolding undoTests lentTests isBoard boardIn madeIn hasFlags stateOf slotRefusal asked
+unfolding undoBefore lentBy isBoard boardIn madeIn hasFlags stateOf
 returns c =
-    let a = c .before .before .before .before .before .before .before .before .before .before .before .before .before .before .before .before .before .before .args in
-    let e = rw (c .before .before .before .before .before .before .before .before .before .made-in .ensures, c .before .before .before .before .before .before .before .before .before .before .before .before .flags-in .ensures) at (c .before .before .before .ask-undo .ensures) in
-    let n = first (undoTests (boardIn (a .board)) (a .journal .now)) in
-    let no : n ≡ 0 → ⊥ = λ p. c .if1 .taken (ap (λ (x : Asked). x .refusal .number) e ∙ p) in
-    rw e (answered-refused (a .board) n (pick (eqb n 14) (a .board .standing) 0) (boardIn (a .board)) no ∙ ap (answered (a .board)) (undo-refused (boardIn (a .board)) (a .journal .now) no))
+    let a = c .before .before .before .before .before .before .before .before .before .before .before .before .before .before .before .before .before .args in
+    let e = rw (c .before .before .before .before .before .before .before .before .made-in .ensures, c .before .before .before .before .before .before .before .before .before .before .before .flags-in .ensures) at (c .before .before .number-of-undo .ensures .0) in
+    rw (c .refusal .ensures)
+    (answered-refused (a .board) _ 0 (boardIn (a .board)) (c .before .if1 .taken)
+    ∙ ap (answered (a .board)) (undo-stopped (boardIn (a .board)) (a .journal .now) _ e (c .before .before .number-of-undo .ensures .1) (c .before .if1 .taken)))
+
+slot-at-requires : tie.Need-slot-at-requires
+slot-at-requires c κs = search needs
+
+struck-cells-requires : tie.Need-struck-cells-requires
+struck-cells-requires c κs = search needs
+
+can-take-back-requires : tie.Need-can-take-back-requires
+can-take-back-requires c κs = search needs
+
+refusal-requires-2 : tie.Need-refusal-requires-2
+refusal-requires-2 c κs = search needs
+
+returns-2 : tie.Need-returns-2
+unfolding undoBefore lentBy isBoard boardIn madeIn hasFlags stateOf
+returns-2 c =
+    let a = c .before .before .before .before .before .before .before .before .before .before .before .before .before .before .before .before .before .before .before .before .before .before .before .before .before .args in
+    let e = rw (c .before .before .before .before .before .before .before .before .before .before .before .before .before .before .before .before .made-in .ensures, c .before .before .before .before .before .before .before .before .before .before .before .before .before .before .before .before .before .before .before .flags-in .ensures) at (c .before .before .before .before .before .before .before .before .before .before .number-of-undo .ensures .0) in
+    let ok : canTakeBack (stateOf (boardIn (a .board))) (slotAt (a .journal .now) (a .board .standing)) ≡ _ = sym ((rw (c .before .before .before .before .before .before .before .struck-cells .ensures, c .before .before .before .before .before .before .before .before .slot-at .ensures, c .before .before .before .before .before .before .before .before .before .before .before .before .before .before .before .before .before .before .before .flags-in .ensures) at (c .before .before .can-take-back .ensures)) ∙ take-back-parts (stateOf (boardIn (a .board))) (slotAt (a .journal .now) (a .board .standing))) in
+    rw (c .refusal2 .ensures)
+    (answered-refused (a .board) 14 (a .board .standing) (boardIn (a .board)) (λ p. omega (arith, p))
+    ∙ ap (answered (a .board)) (undo-unfit (boardIn (a .board)) (a .journal .now) _ e (c .before .before .before .before .before .before .before .before .before .if1 .left) (ap not ok ∙ c .before .if2 .taken)))
 
 after-take-back-requires : tie.Need-after-take-back-requires
 after-take-back-requires c κs = search needs
@@ -44,25 +69,41 @@ after-take-back-requires c κs = search needs
 put-back-requires : tie.Need-put-back-requires
 put-back-requires c κs = search needs
 
-move-of-requires : tie.Need-move-of-requires
-move-of-requires c κs = search needs
-
-give-back-requires : tie.Need-give-back-requires
-give-back-requires c κs = search needs
+give-slot-back-requires : tie.Need-give-slot-back-requires
+give-slot-back-requires c κs = search needs
 
 flag-of-requires : tie.Need-flag-of-requires
 flag-of-requires c κs = search needs
 
-returns-2 : tie.Need-returns-2
-unfolding undoTests lentTests isBoard boardIn madeIn hasFlags stateOf slotRefusal asked
-returns-2 c =
-    let a = c .before .before .before .before .before .before .before .before .before .before .before .before .before .before .before .before .before .before .before .before .before .before .before .before .before .before .before .before .before .before .args in
-    let e = rw (c .before .before .before .before .before .before .before .before .before .before .before .before .before .before .before .before .before .before .before .before .before .made-in .ensures, c .before .before .before .before .before .before .before .before .before .before .before .before .before .before .before .before .before .before .before .before .before .before .before .before .flags-in .ensures) at (c .before .before .before .before .before .before .before .before .before .before .before .before .before .before .before .ask-undo .ensures) in
-    let n : length (a .board .given) ≡ 81 = search (needs, c .before .before .before .before .before .before .before .before .before .before .before .before .before .before .before .before .before .before .before .before .before .before .before .before .before .before .before .before .before .before .good) in
-    let none : first (undoTests (boardIn (a .board)) (a .journal .now)) ≡ 0 = sym (ap (λ (x : Asked). x .refusal .number) e) ∙ c .before .before .before .before .before .before .before .before .before .before .before .before .if1 .left in
+returns-3 : tie.Need-returns-3
+unfolding undoBefore lentBy isBoard boardIn madeIn hasFlags stateOf
+returns-3 c =
+    let a = c .before .before .before .before .before .before .before .before .before .before .before .before .before .before .before .before .before .before .before .before .before .before .before .before .before .before .before .before .before .before .before .before .before .args in
+    let e = rw (c .before .before .before .before .before .before .before .before .before .before .before .before .before .before .before .before .before .before .before .before .before .before .before .before .made-in .ensures, c .before .before .before .before .before .before .before .before .before .before .before .before .before .before .before .before .before .before .before .before .before .before .before .before .before .before .before .flags-in .ensures) at (c .before .before .before .before .before .before .before .before .before .before .before .before .before .before .before .before .before .before .number-of-undo .ensures .0) in
+    let ok : canTakeBack (stateOf (boardIn (a .board))) (slotAt (a .journal .now) (a .board .standing)) ≡ _ = sym ((rw (c .before .before .before .before .before .before .before .before .before .before .before .before .before .before .before .struck-cells .ensures, c .before .before .before .before .before .before .before .before .before .before .before .before .before .before .before .before .slot-at .ensures, c .before .before .before .before .before .before .before .before .before .before .before .before .before .before .before .before .before .before .before .before .before .before .before .before .before .before .before .flags-in .ensures) at (c .before .before .before .before .before .before .before .before .before .before .can-take-back .ensures)) ∙ take-back-parts (stateOf (boardIn (a .board))) (slotAt (a .journal .now) (a .board .standing))) in
+    let n : length (a .board .given) ≡ 81 = search (needs, c .before .before .before .before .before .before .before .before .before .before .before .before .before .before .before .before .before .before .before .before .before .before .before .before .before .before .before .before .before .before .before .before .before .good) in
+    let none = undo-fit (boardIn (a .board)) (a .journal .now) _ e (c .before .before .before .before .before .before .before .before .before .before .before .before .before .before .before .before .before .if1 .left) (ap not ok ∙ c .before .before .before .before .before .before .before .before .before .if2 .left) in
     let kept = flags-kept (a .board .given) n (counted-flags (a .board) (undo-counted (a .board) (a .journal .now) none)) in
-    rw (c .before .before .before .before .before .before .before .before .before .before .before .before .before .before .before .before .before .before .before .before .before .before .before .before .before .before .before .before .accepted .ensures, c .before .before .before .flag-of .ensures, c .before .before .before .before .give-back .ensures, c .before .before .before .before .before .move-of .ensures, c .before .before .before .before .before .before .before .put-back .ensures .0, c .before .before .before .before .before .before .before .put-back .ensures .1, c .before .before .before .before .before .before .before .before .before .after-take-back .ensures, e, c .before .before .before .before .before .before .before .before .before .before .before .before .before .before .before .before .before .before .before .before .before .made-in .ensures)
+    rw (c .before .before .before .before .before .before .before .before .before .before .before .before .before .before .before .before .before .before .before .before .before .before .before .before .before .before .before .before .before .before .before .accepted .ensures, c .before .before .before .flag-of .ensures, c .before .before .before .before .give-slot-back .ensures, c .before .before .before .before .before .before .put-back .ensures .0, c .before .before .before .before .before .before .put-back .ensures .1, c .before .before .before .before .before .before .before .before .after-take-back .ensures, c .before .before .before .before .before .before .before .before .before .before .before .before .before .before .before .struck-cells .ensures, c .before .before .before .before .before .before .before .before .before .before .before .before .before .before .before .before .slot-at .ensures, c .before .before .before .before .before .before .before .before .before .before .before .before .before .before .before .before .before .before .before .before .before .before .before .before .made-in .ensures)
     (undo-left (a .board) (slotAt (a .journal .now) (a .board .standing)) kept ∙ ap (answered (a .board)) (undo-made (boardIn (a .board)) (a .journal .now) none))
 
 pub undo-spec : {M : Type 1} → statement M
-undo-spec = tie.close (tie.spec accepted-requires flags-in-requires made-in-requires ask-undo-requires returns after-take-back-requires put-back-requires move-of-requires give-back-requires flag-of-requires returns-2)
+undo-spec =
+    tie.close
+    (tie.spec
+    accepted-requires
+    flags-in-requires
+    made-in-requires
+    number-of-undo-requires
+    refusal-requires
+    returns
+    slot-at-requires
+    struck-cells-requires
+    can-take-back-requires
+    refusal-requires-2
+    returns-2
+    after-take-back-requires
+    put-back-requires
+    give-slot-back-requires
+    flag-of-requires
+    returns-3)
