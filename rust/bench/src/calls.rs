@@ -93,6 +93,8 @@ impl Boards<'_> {
         self.call("place", Call::Place);
         self.call("undo of a place", |_, _| Call::Undo);
         self.call("redo of a place", |_, _| Call::Redo);
+        self.time("undo of a place, the answer copied", |b, _| make(b, Call::Undo), |b, _| b.undo_and_copy());
+        self.time("redo of a place, the answer copied", |b, _| make(b, Call::Redo), |b, _| b.redo_and_copy());
         self.call("check", |cell, _| Call::Check(cell));
         self.time(
             "cell question",
@@ -119,13 +121,13 @@ impl Boards<'_> {
 
 /// What the boundary itself costs: a call that is refused at once, by number 1, hands the board over and back and does
 /// nothing else.
-fn boundary(puzzle: &Puzzle, rounds: usize) -> f64 {
+fn boundary(puzzle: &Puzzle, rounds: usize, refused: impl Fn(&mut Ours)) -> f64 {
     let mut boards: Vec<Ours> = puzzle.cells.iter().map(|_| Ours::unopened()).collect();
     boards.iter_mut().for_each(|board| board.open(puzzle));
     let mut times: Vec<f64> = (0..rounds)
         .map(|_| {
             let start = Instant::now();
-            boards.iter_mut().for_each(Ours::refused);
+            boards.iter_mut().for_each(&refused);
             start.elapsed().as_nanos() as f64 / boards.len() as f64
         })
         .collect();
@@ -146,5 +148,9 @@ pub fn table(puzzle: &Puzzle, rounds: usize) {
         }
         println!();
     }
-    println!("A place that is refused at once, by number 1, takes the library {:.0} ns.\n", boundary(puzzle, rounds));
+    println!(
+        "A place that is refused at once, by number 1, takes the library {:.0} ns, and {:.0} ns where the answer is copied.\n",
+        boundary(puzzle, rounds, Ours::refused),
+        boundary(puzzle, rounds, Ours::refused_and_copied),
+    );
 }

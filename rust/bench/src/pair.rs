@@ -5,7 +5,8 @@ use original::board::Board as Theirs;
 use pawdoku::sys::{self, Answer, Board, Refusal};
 
 /// A board of the library with its lent memory. The board is that of the latest answer: an answer's board, refused or
-/// not, is the one to go on with, and a host that keeps the answer copies it once less.
+/// not, is the one to go on with. The answer of a move, an undo or a redo is laid over the one before; that of an
+/// opening or a check is copied.
 pub struct Ours {
     answer: Answer,
     pub journal: Vec<u8>,
@@ -35,23 +36,44 @@ impl Ours {
     /// A call that is refused at once: the journal has no bytes.
     #[inline]
     pub fn refused(&mut self) {
+        sys::place_on(&mut self.answer, &mut [], 1, 1, 1);
+        assert_eq!(self.answer.refusal.number, 1);
+    }
+
+    /// The same with the answer returned, and copied over the one before: what a host pays that assigns it.
+    #[inline]
+    pub fn refused_and_copied(&mut self) {
         self.answer = sys::place(&self.answer.board, &mut [], 1, 1, 1);
         assert_eq!(self.answer.refusal.number, 1);
     }
 
+    /// Undo, its answer returned and copied.
+    #[inline]
+    pub fn undo_and_copy(&mut self) {
+        self.answer = sys::undo(&self.answer.board, &self.journal);
+        assert_eq!(self.answer.refusal.number, 0);
+    }
+
+    /// Redo, its answer returned and copied.
+    #[inline]
+    pub fn redo_and_copy(&mut self) {
+        self.answer = sys::redo(&self.answer.board, &self.journal);
+        assert_eq!(self.answer.refusal.number, 0);
+    }
+
     #[inline]
     pub fn make(&mut self, call: Call) {
-        let (board, journal) = (&self.answer.board, &mut self.journal);
+        let (answer, journal) = (&mut self.answer, &mut self.journal);
         match call {
-            Call::Place(cell, digit) => self.answer = sys::place(board, journal, row(cell), column(cell), digit),
-            Call::Erase(cell) => self.answer = sys::erase(board, journal, row(cell), column(cell)),
-            Call::Write(cell, digit) => self.answer = sys::write_mark(board, journal, row(cell), column(cell), digit),
-            Call::Strike(cell, digit) => self.answer = sys::strike_mark(board, journal, row(cell), column(cell), digit),
-            Call::Undo => self.answer = sys::undo(board, journal),
-            Call::Redo => self.answer = sys::redo(board, journal),
+            Call::Place(cell, digit) => sys::place_on(answer, journal, row(cell), column(cell), digit),
+            Call::Erase(cell) => sys::erase_on(answer, journal, row(cell), column(cell)),
+            Call::Write(cell, digit) => sys::write_mark_on(answer, journal, row(cell), column(cell), digit),
+            Call::Strike(cell, digit) => sys::strike_mark_on(answer, journal, row(cell), column(cell), digit),
+            Call::Undo => sys::undo_on(answer, journal),
+            Call::Redo => sys::redo_on(answer, journal),
             Call::Check(cell) => {
-                let checked = sys::check(board, &mut self.checks, row(cell), column(cell));
-                self.answer = Answer { refusal: checked.refusal, board: checked.board };
+                let checked = sys::check(&answer.board, &mut self.checks, row(cell), column(cell));
+                *answer = Answer { refusal: checked.refusal, board: checked.board };
             }
         }
         assert_eq!(self.answer.refusal.number, 0);

@@ -40,6 +40,9 @@ pub struct Ours {
 /// Memory that is lent to an opening, so that it shows whether it was made zero.
 const USED: u8 = 0xa5;
 
+/// The refusal that stands where an answer is laid, so that it shows whether one was.
+const STALE: Refusal = Refusal { number: USED, place: USED as usize, inner: USED };
+
 impl Ours {
     /// Opens with givens as bytes. The board and memory come back for a refusal too.
     pub fn open(givens: &[u8], solution: &[u8], plant: Plant) -> (Refusal, Self) {
@@ -64,20 +67,21 @@ impl Ours {
     /// Makes a call: the refusal, and a check's verdict.
     pub fn call(&mut self, call: Call) -> (Refusal, u8) {
         let before = self.board;
-        let (board, memory) = (&self.board, &mut self.memory);
-        let answer = match call {
-            Call::Place(row, column, digit) => sys::place(board, &mut memory.journal, row, column, digit),
-            Call::Erase(row, column) => sys::erase(board, &mut memory.journal, row, column),
-            Call::WriteMark(row, column, digit) => sys::write_mark(board, &mut memory.journal, row, column, digit),
-            Call::StrikeMark(row, column, digit) => sys::strike_mark(board, &mut memory.journal, row, column, digit),
-            Call::Undo => sys::undo(board, &memory.journal),
-            Call::Redo => sys::redo(board, &memory.journal),
+        let mut answer = Answer { refusal: STALE, board: before };
+        let (laid, memory) = (&mut answer, &mut self.memory);
+        match call {
+            Call::Place(row, column, digit) => sys::place_on(laid, &mut memory.journal, row, column, digit),
+            Call::Erase(row, column) => sys::erase_on(laid, &mut memory.journal, row, column),
+            Call::WriteMark(row, column, digit) => sys::write_mark_on(laid, &mut memory.journal, row, column, digit),
+            Call::StrikeMark(row, column, digit) => sys::strike_mark_on(laid, &mut memory.journal, row, column, digit),
+            Call::Undo => sys::undo_on(laid, &memory.journal),
+            Call::Redo => sys::redo_on(laid, &memory.journal),
             Call::Check(row, column) => {
-                let checked = sys::check(board, &mut memory.checks, row, column);
+                let checked = sys::check(&before, &mut memory.checks, row, column);
                 self.board = checked.board;
                 return self.plant.called(call, &before, (checked.refusal, checked.right), self);
             }
-        };
+        }
         self.board = answer.board;
         self.plant.called(call, &before, (answer.refusal, 0), self)
     }

@@ -27,7 +27,8 @@ use crate::{CHECK_MEMORY, JOURNAL_BYTES, MAX_RECORD, SLOT_BYTES};
 /// ```
 #[derive(Debug, Clone)]
 pub struct Session {
-    board: Board,
+    /// The latest answer. Its board, refused or not, is the one to go on with.
+    answer: Answer,
     journal: Box<[u8; JOURNAL_BYTES]>,
     checks: Box<[u8; CHECK_MEMORY]>,
 }
@@ -59,12 +60,7 @@ impl Session {
         let mut checks = Box::new([0; CHECK_MEMORY]);
         let answer = call(journal.as_mut_slice(), checks.as_mut_slice());
         answer.refusal.into_result()?;
-        Ok(Self { board: answer.board, journal, checks })
-    }
-
-    fn take(&mut self, answer: &Answer) -> Refused<()> {
-        self.board = answer.board;
-        answer.refusal.into_result()
+        Ok(Self { answer, journal, checks })
     }
 
     /// Sets a digit and strikes it from the note of every peer.
@@ -73,8 +69,8 @@ impl Session {
     ///
     /// Refused by 3, 4, 5, 8, 9, 15.
     pub fn place(&mut self, row: u8, column: u8, digit: u8) -> Refused<()> {
-        let answer = sys::place(&self.board, self.journal.as_mut_slice(), row, column, digit);
-        self.take(&answer)
+        sys::place_on(&mut self.answer, self.journal.as_mut_slice(), row, column, digit);
+        self.answer.refusal.into_result()
     }
 
     /// Empties a cell of the player's digit.
@@ -83,8 +79,8 @@ impl Session {
     ///
     /// Refused by 3, 4, 6, 15.
     pub fn erase(&mut self, row: u8, column: u8) -> Refused<()> {
-        let answer = sys::erase(&self.board, self.journal.as_mut_slice(), row, column);
-        self.take(&answer)
+        sys::erase_on(&mut self.answer, self.journal.as_mut_slice(), row, column);
+        self.answer.refusal.into_result()
     }
 
     /// Writes a mark.
@@ -93,8 +89,8 @@ impl Session {
     ///
     /// Refused by 3, 4, 7, 8, 10, 15.
     pub fn write_mark(&mut self, row: u8, column: u8, digit: u8) -> Refused<()> {
-        let answer = sys::write_mark(&self.board, self.journal.as_mut_slice(), row, column, digit);
-        self.take(&answer)
+        sys::write_mark_on(&mut self.answer, self.journal.as_mut_slice(), row, column, digit);
+        self.answer.refusal.into_result()
     }
 
     /// Strikes a mark.
@@ -103,8 +99,8 @@ impl Session {
     ///
     /// Refused by 3, 4, 7, 11, 15.
     pub fn strike_mark(&mut self, row: u8, column: u8, digit: u8) -> Refused<()> {
-        let answer = sys::strike_mark(&self.board, self.journal.as_mut_slice(), row, column, digit);
-        self.take(&answer)
+        sys::strike_mark_on(&mut self.answer, self.journal.as_mut_slice(), row, column, digit);
+        self.answer.refusal.into_result()
     }
 
     /// Takes the latest standing move back.
@@ -113,8 +109,8 @@ impl Session {
     ///
     /// Refused by 4, 12.
     pub fn undo(&mut self) -> Refused<()> {
-        let answer = sys::undo(&self.board, self.journal.as_slice());
-        self.take(&answer)
+        sys::undo_on(&mut self.answer, self.journal.as_slice());
+        self.answer.refusal.into_result()
     }
 
     /// Makes the next undone move again.
@@ -123,8 +119,8 @@ impl Session {
     ///
     /// Refused by 4, 13.
     pub fn redo(&mut self) -> Refused<()> {
-        let answer = sys::redo(&self.board, self.journal.as_slice());
-        self.take(&answer)
+        sys::redo_on(&mut self.answer, self.journal.as_slice());
+        self.answer.refusal.into_result()
     }
 
     /// Is the player's digit the solution's? The check is stored.
@@ -133,17 +129,16 @@ impl Session {
     ///
     /// Refused by 3, 4, 6, 16.
     pub fn check(&mut self, row: u8, column: u8) -> Refused<bool> {
-        let answer = sys::check(&self.board, self.checks.as_mut_slice(), row, column);
-        self.board = answer.board;
-        answer.refusal.into_result()?;
-        Ok(answer.right == 1)
+        let checked = sys::check(&self.answer.board, self.checks.as_mut_slice(), row, column);
+        self.answer = Answer { refusal: checked.refusal, board: checked.board };
+        checked.refusal.into_result().map(|()| checked.right == 1)
     }
 
     /// Runs encoded calls and writes their answers: see [`sys::play`]. As many are run as both lists have.
     pub fn play(&mut self, calls: &[[u8; 4]], answers: &mut [[u8; 4]]) {
         let (journal, checks) = (self.journal.as_mut_slice(), self.checks.as_mut_slice());
         let (calls, answers) = (calls.as_flattened(), answers.as_flattened_mut());
-        self.board = sys::play(&self.board, journal, checks, calls, answers).board;
+        self.answer = sys::play(&self.answer.board, journal, checks, calls, answers);
     }
 
     /// The slot of the latest standing move.
@@ -153,7 +148,7 @@ impl Session {
     /// Refused by 12.
     pub fn latest(&self) -> Refused<[u8; SLOT_BYTES]> {
         let mut slot = [0; SLOT_BYTES];
-        let shown = sys::latest(&self.board, self.journal.as_slice(), &mut slot);
+        let shown = sys::latest(self.board(), self.journal.as_slice(), &mut slot);
         shown.refusal.into_result().map(|()| slot)
     }
 
@@ -164,7 +159,7 @@ impl Session {
     /// Refused by 13.
     pub fn next(&self) -> Refused<[u8; SLOT_BYTES]> {
         let mut slot = [0; SLOT_BYTES];
-        let shown = sys::next(&self.board, self.journal.as_slice(), &mut slot);
+        let shown = sys::next(self.board(), self.journal.as_slice(), &mut slot);
         shown.refusal.into_result().map(|()| slot)
     }
 
@@ -176,7 +171,7 @@ impl Session {
     pub fn write(&self) -> Refused<Vec<u8>> {
         let mut record = vec![0; MAX_RECORD];
         let (journal, checks) = (self.journal.as_slice(), self.checks.as_slice());
-        let written = sys::write(&self.board, journal, checks, &mut record);
+        let written = sys::write(self.board(), journal, checks, &mut record);
         written.refusal.into_result()?;
         record.truncate(written.length);
         Ok(record)
@@ -188,7 +183,7 @@ impl Session {
     ///
     /// Refused by 35.
     pub fn reading(&self, k: usize) -> Refused<ReadingAnswer> {
-        let answer = sys::reading(&self.board, self.journal.as_slice(), k);
+        let answer = sys::reading(self.board(), self.journal.as_slice(), k);
         answer.refusal.into_result().map(|()| answer)
     }
 
@@ -198,7 +193,7 @@ impl Session {
     ///
     /// Refused by 3.
     pub fn cell(&self, row: u8, column: u8) -> Refused<CellAnswer> {
-        let answer = sys::cell(&self.board, row, column);
+        let answer = sys::cell(self.board(), row, column);
         answer.refusal.into_result().map(|()| answer)
     }
 
@@ -208,44 +203,44 @@ impl Session {
     ///
     /// Refused by 8.
     pub fn digits_left(&self, digit: u8) -> Refused<u8> {
-        let answer = sys::digits_left(&self.board, digit);
+        let answer = sys::digits_left(self.board(), digit);
         answer.refusal.into_result().map(|()| answer.left)
     }
 
     /// Is the board solved?
     #[must_use]
     pub fn is_solved(&self) -> bool {
-        sys::is_solved(&self.board).holds == 1
+        sys::is_solved(self.board()).holds == 1
     }
 
     /// Does every cell hold a digit?
     #[must_use]
     pub fn is_full(&self) -> bool {
-        sys::is_full(&self.board).holds == 1
+        sys::is_full(self.board()).holds == 1
     }
 
     /// Does no cell conflict?
     #[must_use]
     pub fn is_consistent(&self) -> bool {
-        sys::is_consistent(&self.board).holds == 1
+        sys::is_consistent(self.board()).holds == 1
     }
 
     /// Is there a move to take back?
     #[must_use]
     pub fn can_undo(&self) -> bool {
-        sys::can_undo(&self.board).holds == 1
+        sys::can_undo(self.board()).holds == 1
     }
 
     /// Is there a move to make again?
     #[must_use]
     pub fn can_redo(&self) -> bool {
-        sys::can_redo(&self.board).holds == 1
+        sys::can_redo(self.board()).holds == 1
     }
 
     /// The board value.
     #[must_use]
     pub const fn board(&self) -> &Board {
-        &self.board
+        &self.answer.board
     }
 
     /// The journal memory: move n stands in the nth eight bytes.

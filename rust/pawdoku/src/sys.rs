@@ -1,4 +1,5 @@
-//! Every function of include/pawdoku.h, with nothing added: any board, any slices, any bytes.
+//! Every function of include/pawdoku.h as it is: any board, any slices, any bytes. The four moves, undo and redo stand
+//! here twice: [`undo`] returns its answer, [`undo_on`] lays it over the one before.
 //!
 //! The library refuses what it cannot use by a number, whatever it is handed, so all of these are safe: what it
 //! asks of a caller beyond that (pointers that can be used, no overlap with memory that is written) is what a Rust
@@ -6,7 +7,7 @@
 //!
 //! The structs have the layout of the header's, which is asserted below. Flags are bytes, 0 or 1.
 
-use core::mem::{offset_of, size_of};
+use core::mem::{MaybeUninit, offset_of, size_of};
 
 /// Why a call is refused; number 0 where it is not. Place and inner are 0 where nothing is said of them.
 #[repr(C)]
@@ -203,6 +204,13 @@ const _: () = {
     assert!(size_of::<Digits>() == 9 && size_of::<PeerCells>() == 20);
 };
 
+#[cfg(not(all(target_arch = "x86_64", target_family = "unix", target_pointer_width = "64")))]
+compile_error!("pawdoku is called by the System V ABI for x86-64, where an answer comes back through a pointer");
+
+// The four moves, undo and redo are declared with the pointer shown that C hides. By the System V ABI for x86-64 a
+// struct of more than 64 bytes has class MEMORY and is returned through a pointer: the caller passes it as if it were
+// the first argument, and it comes back in rax. So `answer f(board, ...)` and `answer *f(answer *, board, ...)` are the
+// same call. With the pointer shown the caller says where the answer is laid, and nothing has to copy it there.
 mod c {
     use super::{Answer, Board, CellAnswer, Checked, Digits, Left, PeerCells, ReadingAnswer, Shown, Written, YesNo};
 
@@ -218,32 +226,52 @@ mod c {
             checks_length: usize,
         ) -> Answer;
         pub fn pawdoku_place(
+            answer: *mut Answer,
             board: Board,
             journal: *mut u8,
             journal_length: usize,
             row: u8,
             column: u8,
             digit: u8,
-        ) -> Answer;
-        pub fn pawdoku_erase(board: Board, journal: *mut u8, journal_length: usize, row: u8, column: u8) -> Answer;
+        ) -> *mut Answer;
+        pub fn pawdoku_erase(
+            answer: *mut Answer,
+            board: Board,
+            journal: *mut u8,
+            journal_length: usize,
+            row: u8,
+            column: u8,
+        ) -> *mut Answer;
         pub fn pawdoku_write_mark(
+            answer: *mut Answer,
             board: Board,
             journal: *mut u8,
             journal_length: usize,
             row: u8,
             column: u8,
             digit: u8,
-        ) -> Answer;
+        ) -> *mut Answer;
         pub fn pawdoku_strike_mark(
+            answer: *mut Answer,
             board: Board,
             journal: *mut u8,
             journal_length: usize,
             row: u8,
             column: u8,
             digit: u8,
-        ) -> Answer;
-        pub fn pawdoku_undo(board: Board, journal: *const u8, journal_length: usize) -> Answer;
-        pub fn pawdoku_redo(board: Board, journal: *const u8, journal_length: usize) -> Answer;
+        ) -> *mut Answer;
+        pub fn pawdoku_undo(
+            answer: *mut Answer,
+            board: Board,
+            journal: *const u8,
+            journal_length: usize,
+        ) -> *mut Answer;
+        pub fn pawdoku_redo(
+            answer: *mut Answer,
+            board: Board,
+            journal: *const u8,
+            journal_length: usize,
+        ) -> *mut Answer;
         pub fn pawdoku_check(board: Board, checks: *mut u8, checks_length: usize, row: u8, column: u8) -> Checked;
         pub fn pawdoku_latest(
             board: Board,
@@ -312,10 +340,20 @@ mod c {
     }
 }
 
-// SAFETY, for every block below: the declarations are the header's, the structs have its layout, every field is an
-// integer (so that any bytes are a value), and each pointer with its length is a slice that Rust holds for the
-// call: valid for its length, written only where it is borrowed mutably, which also keeps it apart from the rest.
-// The library keeps no pointer.
+// SAFETY, for every block below: the declarations are the header's (six with the answer's pointer shown), the structs
+// have its layout, every field is an integer (so that any bytes are a value), and each pointer with its length is a
+// slice that Rust holds for the call: valid for its length, written only where it is borrowed mutably, which also keeps
+// it apart from the rest. The library keeps no pointer.
+// A shown pointer names room for one answer that Rust holds as well, mutably and so apart from every slice. The board
+// that goes in is copied before the call, like any argument, so it may stand in that room. A call fills all of it.
+
+/// The answer that a call lays where it is told. The call has to fill all of it.
+#[inline]
+unsafe fn laid(call: impl FnOnce(*mut Answer) -> *mut Answer) -> Answer {
+    let mut answer = MaybeUninit::uninit();
+    call(answer.as_mut_ptr());
+    unsafe { answer.assume_init() }
+}
 
 /// Opens a board on givens, triples of row, column, digit in ascending order. Refused by 1, 19, 22 to 27.
 #[must_use]
@@ -340,14 +378,33 @@ pub fn open(givens: &[u8], solution: &[u8], journal: &mut [u8], checks: &mut [u8
 #[inline]
 pub fn place(board: &Board, journal: &mut [u8], row: u8, column: u8, digit: u8) -> Answer {
     let (lent, length) = (journal.as_mut_ptr(), journal.len());
-    unsafe { c::pawdoku_place(*board, lent, length, row, column, digit) }
+    unsafe { laid(|answer| c::pawdoku_place(answer, *board, lent, length, row, column, digit)) }
+}
+
+/// Places a digit, on the board of the latest answer. Refused by 1 to 5, 8, 9, 15.
+///
+/// The answer is laid over the one before, without a copy.
+#[inline]
+pub fn place_on(answer: &mut Answer, journal: &mut [u8], row: u8, column: u8, digit: u8) {
+    let (lent, length) = (journal.as_mut_ptr(), journal.len());
+    unsafe { c::pawdoku_place(answer, answer.board, lent, length, row, column, digit) };
 }
 
 /// Erases the player's digit. Refused by 1 to 4, 6, 15.
 #[must_use]
 #[inline]
 pub fn erase(board: &Board, journal: &mut [u8], row: u8, column: u8) -> Answer {
-    unsafe { c::pawdoku_erase(*board, journal.as_mut_ptr(), journal.len(), row, column) }
+    let (lent, length) = (journal.as_mut_ptr(), journal.len());
+    unsafe { laid(|answer| c::pawdoku_erase(answer, *board, lent, length, row, column)) }
+}
+
+/// Erases the player's digit, on the board of the latest answer. Refused by 1 to 4, 6, 15.
+///
+/// The answer is laid over the one before, without a copy.
+#[inline]
+pub fn erase_on(answer: &mut Answer, journal: &mut [u8], row: u8, column: u8) {
+    let (lent, length) = (journal.as_mut_ptr(), journal.len());
+    unsafe { c::pawdoku_erase(answer, answer.board, lent, length, row, column) };
 }
 
 /// Writes a mark. Refused by 1 to 4, 7, 8, 10, 15.
@@ -355,7 +412,16 @@ pub fn erase(board: &Board, journal: &mut [u8], row: u8, column: u8) -> Answer {
 #[inline]
 pub fn write_mark(board: &Board, journal: &mut [u8], row: u8, column: u8, digit: u8) -> Answer {
     let (lent, length) = (journal.as_mut_ptr(), journal.len());
-    unsafe { c::pawdoku_write_mark(*board, lent, length, row, column, digit) }
+    unsafe { laid(|answer| c::pawdoku_write_mark(answer, *board, lent, length, row, column, digit)) }
+}
+
+/// Writes a mark, on the board of the latest answer. Refused by 1 to 4, 7, 8, 10, 15.
+///
+/// The answer is laid over the one before, without a copy.
+#[inline]
+pub fn write_mark_on(answer: &mut Answer, journal: &mut [u8], row: u8, column: u8, digit: u8) {
+    let (lent, length) = (journal.as_mut_ptr(), journal.len());
+    unsafe { c::pawdoku_write_mark(answer, answer.board, lent, length, row, column, digit) };
 }
 
 /// Strikes a mark. Refused by 1 to 4, 7, 11, 15.
@@ -363,21 +429,46 @@ pub fn write_mark(board: &Board, journal: &mut [u8], row: u8, column: u8, digit:
 #[inline]
 pub fn strike_mark(board: &Board, journal: &mut [u8], row: u8, column: u8, digit: u8) -> Answer {
     let (lent, length) = (journal.as_mut_ptr(), journal.len());
-    unsafe { c::pawdoku_strike_mark(*board, lent, length, row, column, digit) }
+    unsafe { laid(|answer| c::pawdoku_strike_mark(answer, *board, lent, length, row, column, digit)) }
+}
+
+/// Strikes a mark, on the board of the latest answer. Refused by 1 to 4, 7, 11, 15.
+///
+/// The answer is laid over the one before, without a copy.
+#[inline]
+pub fn strike_mark_on(answer: &mut Answer, journal: &mut [u8], row: u8, column: u8, digit: u8) {
+    let (lent, length) = (journal.as_mut_ptr(), journal.len());
+    unsafe { c::pawdoku_strike_mark(answer, answer.board, lent, length, row, column, digit) };
 }
 
 /// Takes the latest standing move back. Refused by 1, 2, 4, 12, 14.
 #[must_use]
 #[inline]
 pub fn undo(board: &Board, journal: &[u8]) -> Answer {
-    unsafe { c::pawdoku_undo(*board, journal.as_ptr(), journal.len()) }
+    unsafe { laid(|answer| c::pawdoku_undo(answer, *board, journal.as_ptr(), journal.len())) }
+}
+
+/// Takes the latest standing move back, on the board of the latest answer. Refused by 1, 2, 4, 12, 14.
+///
+/// The answer is laid over the one before, without a copy.
+#[inline]
+pub fn undo_on(answer: &mut Answer, journal: &[u8]) {
+    unsafe { c::pawdoku_undo(answer, answer.board, journal.as_ptr(), journal.len()) };
 }
 
 /// Makes the next undone move again. Refused by 1, 2, 4, 13, 14.
 #[must_use]
 #[inline]
 pub fn redo(board: &Board, journal: &[u8]) -> Answer {
-    unsafe { c::pawdoku_redo(*board, journal.as_ptr(), journal.len()) }
+    unsafe { laid(|answer| c::pawdoku_redo(answer, *board, journal.as_ptr(), journal.len())) }
+}
+
+/// Makes the next undone move again, on the board of the latest answer. Refused by 1, 2, 4, 13, 14.
+///
+/// The answer is laid over the one before, without a copy.
+#[inline]
+pub fn redo_on(answer: &mut Answer, journal: &[u8]) {
+    unsafe { c::pawdoku_redo(answer, answer.board, journal.as_ptr(), journal.len()) };
 }
 
 /// Compares a player's digit with the solution's and stores the check. Refused by 1 to 4, 6, 16.
