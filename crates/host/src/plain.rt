@@ -1,4 +1,5 @@
-// A place that struck no mark, which most moves are: undo and redo ask of it the digit alone, and change no note. Every other slot goes the way of crate back.
+// A place that struck no mark, here called plain: undo and redo ask of it the digit alone, and change no note. Every other slot goes the way of crate back.
+// The functions of back that do the rest stay calls, and these become part of undo and redo: that is what makes the short way short.
 use back::asking::stands_as_found;
 use back::asking::stands_as_left;
 use back::marks::give_back;
@@ -27,7 +28,7 @@ fn is_plain(slot: Slot) -> bool
     false
 }
 
-// What a slot changed stands as its move left it. Of a plain place the digit is asked alone: most moves are one.
+// What a slot changed stands as its move left it. Of a plain place the digit is asked alone.
 fn as_left<'a>(digits: &'a [u8; 81], notes: &'a [u16; 81], slot: Slot, cells: [u8; 20]) -> bool
     ensures { λ r. ⌜ r ≡ leftBy (parts [] (now (digits .entry)) (now (notes .entry)) false) (moveOf slot) (slot .struck) cells ⌝ }
 {
@@ -37,7 +38,7 @@ fn as_left<'a>(digits: &'a [u8; 81], notes: &'a [u16; 81], slot: Slot, cells: [u
     stands_as_left(digits, notes, move_of(slot), slot.struck, cells)
 }
 
-// What a slot changes stands as its move found it.
+// What a slot changes stands as its move found it. Of a plain place the digit is asked alone.
 fn as_found<'a>(digits: &'a [u8; 81], notes: &'a [u16; 81], slot: Slot, cells: [u8; 20]) -> bool
     ensures { λ r. ⌜ r ≡ foundBy (parts [] (now (digits .entry)) (now (notes .entry)) false) (moveOf slot) (slot .before) (slot .struck) cells ⌝ }
 {
