@@ -1,7 +1,7 @@
--- Undo and redo in two steps, as the code goes: the tests that need no slot, whose number a function of their own found, and then the slot.
+-- Undo and redo in two steps, as the code goes: the tests that need no slot, whose number a function of their own found, and then the slot. One law says it of both.
 -- Assumes nothing.
 use Prim.Native.Nat.{ℕ, _+_, _<_}
-use mathlib.Core.Path.{_≡_, refl, sym, ap, _∙_}
+use mathlib.Core.Path.{_≡_, sym, ap, _∙_}
 use mathlib.Core.Bool.{Bool, true, false, not}
 use mathlib.Core.List.{List, [], _∷_, _++_}
 use native.Mathlib.Omega.{arith}
@@ -15,12 +15,13 @@ use Rattle.journal.specs.State.{State}
 use Rattle.journal.specs.Slots.{moveOf, slotAt, soundFor}
 use Rattle.journal.proofs.SlotLaws.{sound-for}
 use Rattle.board.specs.declared.Board.{Board}
+use Rattle.board.specs.declared.Answer.{Answer}
 use Rattle.board.specs.Board.{stateOf}
 use Rattle.board.specs.Open.{answer}
 use Rattle.board.proofs.Numbers.{last-if}
 use Rattle.play.specs.Parts.{parts}
-use Rattle.play.specs.Play.{lentBy, lentTests, canTakeBack, canRetake, undoTests, undoOf, redoTests, redoOf}
-use Rattle.play.proofs.Joined.{join-refused, join-passed}
+use Rattle.play.specs.Play.{lentBy, lentTests, slotRefusal, canTakeBack, canRetake, undoTests, undoOf, redoTests, redoOf}
+use Rattle.play.proofs.Joined.{Numbered, join-refused, join-passed}
 use Rattle.play.proofs.Accepted.{slot-plain, slot-14, undo-refused, redo-refused}
 use Rattle.back.specs.Halves.{struckCells, leftBy, foundBy, undoBefore, redoBefore}
 use Rattle.back.proofs.Parts.{left-parts, found-parts}
@@ -36,69 +37,70 @@ module _ (s : State) (slot : Slot) where
   unfolding canRetake
   retake-parts = λ i. both (sym (sound-for s slot) i) (found-parts s slot i)
 
+-- ---- a call whose last test is 14: the tests before it gave the number n, and `unfit` says that the slot does not fit
+
+module _ (before : List Test) (q : Numbered before) (unfit : Bool) (n : ℕ) (e : n ≡ first before) where
+  by-the-slot : n ≡ 0 → first (before ++ ((unfit ⇒ 14) ∷ [])) ≡ first ((unfit ⇒ 14) ∷ [])
+  by-the-slot p = join-passed before ((unfit ⇒ 14) ∷ []) q (sym e ∙ p)
+
+  fits : n ≡ 0 → unfit ≡ false → first (before ++ ((unfit ⇒ 14) ∷ [])) ≡ 0
+  fits p t = by-the-slot p ∙ last-if unfit 14 t
+
+  module _ (b : Board) (slot : ℕ) (call : Answer)
+      (gives : (first (before ++ ((unfit ⇒ 14) ∷ [])) ≡ 0 → ⊥) → answer (slotRefusal (first (before ++ ((unfit ⇒ 14) ∷ []))) slot) b ≡ call) where
+    stops : n < 14 → (n ≡ 0 → ⊥) → answer (refusal n 0 0) b ≡ call
+    stops l h =
+        let same : n ≡ first (before ++ ((unfit ⇒ 14) ∷ [])) = e ∙ sym (join-refused before ((unfit ⇒ 14) ∷ []) (λ p. h (e ∙ p))) in
+        ap (λ r. answer r b) (slot-plain n _ slot l same) ∙ gives (λ p. h (same ∙ p))
+
+    unfits : n ≡ 0 → unfit ≡ true → answer (refusal 14 slot 0) b ≡ call
+    unfits p t =
+        let same : 14 ≡ first (before ++ ((unfit ⇒ 14) ∷ [])) = sym (by-the-slot p ∙ refused unfit 14 [] t) in
+        ap (λ r. answer r b) (slot-14 _ slot same) ∙ gives (λ o. omega (arith, same, o))
+
 -- ---- undo
 
 module _ (b : Board) (journal : List ℕ) (n : ℕ) (e : n ≡ first (undoBefore b (length journal))) where
-  undo-14 : List Test
-  undo-14 = (not (canTakeBack (stateOf b) (slotAt journal (b .standing))) ⇒ 14) ∷ []
-
-  undo-joined : undoTests b journal ≡ undoBefore b (length journal) ++ undo-14
-  unfolding undoTests undoBefore lentTests lentBy undo-14
-  undo-joined = refl
-
-  undo-last : n ≡ 0 → first (undoTests b journal) ≡ first undo-14
+  undo-numbered : Numbered (undoBefore b (length journal))
   unfolding undoBefore lentBy
-  undo-last p = ap first undo-joined ∙ join-passed (undoBefore b (length journal)) undo-14 (omega arith, (omega arith, (omega arith, (omega arith, tt)))) (sym e ∙ p)
+  undo-numbered = (omega arith, (omega arith, (omega arith, (omega arith, tt))))
 
   -- refused before the slot is asked
   pub undo-stopped : n < 14 → (n ≡ 0 → ⊥) → answer (refusal n 0 0) b ≡ undoOf b journal
-  undo-stopped l h =
-      let same : n ≡ first (undoTests b journal) = e ∙ sym (ap first undo-joined ∙ join-refused (undoBefore b (length journal)) undo-14 (λ p. h (e ∙ p))) in
-      ap (λ r. answer r b) (slot-plain n _ (b .standing) l same) ∙ undo-refused b journal (λ p. h (same ∙ p))
+  unfolding undoTests undoBefore lentTests lentBy
+  undo-stopped = stops (undoBefore b (length journal)) undo-numbered (not (canTakeBack (stateOf b) (slotAt journal (b .standing)))) n e b (b .standing) (undoOf b journal) (undo-refused b journal)
 
   -- refused by its slot
   pub undo-unfit : n ≡ 0 → not (canTakeBack (stateOf b) (slotAt journal (b .standing))) ≡ true → answer (refusal 14 (b .standing) 0) b ≡ undoOf b journal
-  unfolding undo-14
-  undo-unfit p t =
-      let same : 14 ≡ first (undoTests b journal) = sym (undo-last p ∙ refused _ 14 [] t) in
-      ap (λ r. answer r b) (slot-14 _ (b .standing) same) ∙ undo-refused b journal (λ q. omega (arith, same, q))
+  unfolding undoTests undoBefore lentTests lentBy
+  undo-unfit = unfits (undoBefore b (length journal)) undo-numbered (not (canTakeBack (stateOf b) (slotAt journal (b .standing)))) n e b (b .standing) (undoOf b journal) (undo-refused b journal)
 
   -- accepted
   pub undo-fit : n ≡ 0 → not (canTakeBack (stateOf b) (slotAt journal (b .standing))) ≡ false → first (undoTests b journal) ≡ 0
-  unfolding undo-14
-  undo-fit p t = undo-last p ∙ last-if _ 14 t
+  unfolding undoTests undoBefore lentTests lentBy
+  undo-fit = fits (undoBefore b (length journal)) undo-numbered (not (canTakeBack (stateOf b) (slotAt journal (b .standing)))) n e
 
 -- ---- redo
 
 module _ (b : Board) (journal : List ℕ) (n : ℕ) (e : n ≡ first (redoBefore b (length journal))) where
-  redo-14 : List Test
-  redo-14 = (not (canRetake (stateOf b) (slotAt journal (b .standing + 1))) ⇒ 14) ∷ []
-
-  redo-joined : redoTests b journal ≡ redoBefore b (length journal) ++ redo-14
-  unfolding redoTests redoBefore lentTests lentBy redo-14
-  redo-joined = refl
-
-  redo-last : n ≡ 0 → first (redoTests b journal) ≡ first redo-14
+  redo-numbered : Numbered (redoBefore b (length journal))
   unfolding redoBefore lentBy
-  redo-last p = ap first redo-joined ∙ join-passed (redoBefore b (length journal)) redo-14 (omega arith, (omega arith, (omega arith, (omega arith, tt)))) (sym e ∙ p)
+  redo-numbered = (omega arith, (omega arith, (omega arith, (omega arith, tt))))
 
   -- refused before the slot is asked
   pub redo-stopped : n < 14 → (n ≡ 0 → ⊥) → answer (refusal n 0 0) b ≡ redoOf b journal
-  redo-stopped l h =
-      let same : n ≡ first (redoTests b journal) = e ∙ sym (ap first redo-joined ∙ join-refused (redoBefore b (length journal)) redo-14 (λ p. h (e ∙ p))) in
-      ap (λ r. answer r b) (slot-plain n _ (b .standing + 1) l same) ∙ redo-refused b journal (λ p. h (same ∙ p))
+  unfolding redoTests redoBefore lentTests lentBy
+  redo-stopped = stops (redoBefore b (length journal)) redo-numbered (not (canRetake (stateOf b) (slotAt journal (b .standing + 1)))) n e b (b .standing + 1) (redoOf b journal) (redo-refused b journal)
 
   -- refused by its slot
   pub redo-unfit : n ≡ 0 → not (canRetake (stateOf b) (slotAt journal (b .standing + 1))) ≡ true → answer (refusal 14 (b .standing + 1) 0) b ≡ redoOf b journal
-  unfolding redo-14
-  redo-unfit p t =
-      let same : 14 ≡ first (redoTests b journal) = sym (redo-last p ∙ refused _ 14 [] t) in
-      ap (λ r. answer r b) (slot-14 _ (b .standing + 1) same) ∙ redo-refused b journal (λ q. omega (arith, same, q))
+  unfolding redoTests redoBefore lentTests lentBy
+  redo-unfit = unfits (redoBefore b (length journal)) redo-numbered (not (canRetake (stateOf b) (slotAt journal (b .standing + 1)))) n e b (b .standing + 1) (redoOf b journal) (redo-refused b journal)
 
   -- accepted
   pub redo-fit : n ≡ 0 → not (canRetake (stateOf b) (slotAt journal (b .standing + 1))) ≡ false → first (redoTests b journal) ≡ 0
-  unfolding redo-14
-  redo-fit p t = redo-last p ∙ last-if _ 14 t
+  unfolding redoTests redoBefore lentTests lentBy
+  redo-fit = fits (redoBefore b (length journal)) redo-numbered (not (canRetake (stateOf b) (slotAt journal (b .standing + 1)))) n e
 
   -- where nothing refuses before the slot, a move is there after the standing ones
   pub redo-more : n ≡ 0 → b .standing < b .made

@@ -18,7 +18,7 @@ use Rattle.journal.specs.StoredChecks.{storedBytes}
 use Rattle.board.specs.declared.Board.{Board}
 use Rattle.board.specs.Board.{stateOf, isBoard}
 use Rattle.board.specs.Open.{answer}
-use Rattle.play.specs.Play.{played, moveTests, lentBy, lentNumber, lentTests, callTests, recordMove, playOf, slotRefusal, undoTests, undone, undoOf, redoTests, redone, redoOf, latestNumber, latestPart, nextNumber, nextPart}
+use Rattle.play.specs.Play.{played, moveTests, lentTests, callTests, recordMove, playOf, slotRefusal, undoTests, undone, undoOf, redoTests, redone, redoOf, latestNumber, latestPart, nextNumber, nextPart}
 use Rattle.play.specs.Check.{checked, checkTests, checkOn, withCheck, checkOf}
 use Rattle.journal.specs.Slots.{slotAt, slotPart, slotStart}
 use Rattle.play.proofs.Joined.{moves-numbered, join-last}
@@ -57,11 +57,6 @@ lent-passed b journal ts p =
       counts = board-counts b (not-false _ (two .0));
       rest = two .1;
     }
-
--- the same from the number of 1 and 2 alone
-pub lent-counts : (b : Board) (bytes : ℕ) → lentNumber b bytes ≡ 0 → Counted b
-unfolding lentNumber lentBy
-lent-counts b bytes p = board-counts b (not-false _ (passed _ 1 _ (passed _ 0 _ p .1) .0))
 
 -- ---- place, erase and the marks
 
@@ -118,15 +113,6 @@ module _ (b : Board) (journal : List ℕ) where
   pub redo-made : first (redoTests b journal) ≡ 0 → answer accepted (redone b (slotAt journal (b .standing + 1))) ≡ redoOf b journal
   unfolding redoOf
   redo-made p = sym (pick-true _ _ _ (eq-eqb (first (redoTests b journal)) 0 p))
-
-  -- where redo is accepted, a move is there after the standing ones
-  pub redo-below : first (redoTests b journal) ≡ 0 → (b .standing < b .made) × (b .made ≤ maxMoves)
-  unfolding redoTests
-  redo-below p =
-      let lent = lent-passed b journal _ p in
-      let unsolved = passed _ 3 _ (lent .rest) in
-      let more = passed _ 12 _ (unsolved .1) in
-      (leb-false (b .made) (b .standing) (more .0), lent .counts .made)
 
 -- ---- the check
 
