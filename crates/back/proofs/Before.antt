@@ -1,8 +1,8 @@
 -- Undo and redo in two steps, as the code goes: the tests that need no slot, whose number a function of their own found, and then the slot. One law says it of both.
 -- Assumes nothing.
 use Prim.Native.Nat.{ℕ, _+_, _<_}
-use mathlib.Core.Path.{_≡_, sym, ap, _∙_}
-use mathlib.Core.Bool.{Bool, true, false, not}
+use mathlib.Core.Path.{_≡_, refl, sym, ap, _∙_}
+use mathlib.Core.Bool.{Bool, true, false, not, _&&_}
 use mathlib.Core.List.{List, [], _∷_, _++_}
 use native.Mathlib.Omega.{arith}
 use borrow.Author.Tests.{leb-false}
@@ -26,16 +26,21 @@ use Rattle.play.proofs.Accepted.{slot-plain, slot-14, undo-refused, redo-refuse
 use Rattle.back.specs.Halves.{struckCells, leftBy, foundBy, undoBefore, redoBefore}
 use Rattle.back.proofs.Parts.{left-parts, found-parts}
 
--- ---- the slot, asked of a state's parts
+-- ---- the slot, asked of a state's parts, both questions in any case
+
+and-both : (a b : Bool) → (a && b) ≡ both a b
+unfolding both
+and-both true b = refl
+and-both false b = refl
 
 module _ (s : State) (slot : Slot) where
-  pub take-back-parts : both (soundFor (s .given) slot) (leftBy (parts [] (s .digits) (s .notes) false) (moveOf slot) (slot .struck) (struckCells slot)) ≡ canTakeBack s slot
+  pub take-back-parts : (soundFor (s .given) slot && leftBy (parts [] (s .digits) (s .notes) false) (moveOf slot) (slot .struck) (struckCells slot)) ≡ canTakeBack s slot
   unfolding canTakeBack
-  take-back-parts = λ i. both (sym (sound-for s slot) i) (left-parts s slot i)
+  take-back-parts = and-both _ _ ∙ (λ i. both (sym (sound-for s slot) i) (left-parts s slot i))
 
-  pub retake-parts : both (soundFor (s .given) slot) (foundBy (parts [] (s .digits) (s .notes) false) (moveOf slot) (slot .before) (slot .struck) (struckCells slot)) ≡ canRetake s slot
+  pub retake-parts : (soundFor (s .given) slot && foundBy (parts [] (s .digits) (s .notes) false) (moveOf slot) (slot .before) (slot .struck) (struckCells slot)) ≡ canRetake s slot
   unfolding canRetake
-  retake-parts = λ i. both (sym (sound-for s slot) i) (found-parts s slot i)
+  retake-parts = and-both _ _ ∙ (λ i. both (sym (sound-for s slot) i) (found-parts s slot i))
 
 -- ---- a call whose last test is 14: the tests before it gave the number n, and `unfit` says that the slot does not fit
 

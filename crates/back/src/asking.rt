@@ -1,11 +1,8 @@
 // What undo and redo ask before they do anything, of a board's parts and in the order of the numbers: first what needs no slot, then whether the slot can be taken back or made again.
 use journal::Move;
-use journal::Slot;
 use journal::notes::masked_have;
 use journal::notes::masked_lack;
 use journal::notes::note_at;
-use journal::slots::is_sound;
-use journal::slots::move_of;
 use play::numbers::number_of_lent;
 use puzzle::digit_at;
 use sudoku::cell_of;
@@ -18,7 +15,6 @@ ghost use Rattle.sudoku.specs.Tests.{first, both};
 ghost use Rattle.sudoku.specs.Grid.{at};
 ghost use Rattle.note.specs.Note.{contains};
 ghost use Rattle.journal.specs.State.{everyMasked};
-ghost use Rattle.journal.specs.Slots.{moveOf, soundFor};
 ghost use Rattle.board.specs.Board.{whole};
 ghost use Rattle.play.specs.Parts.{parts};
 ghost use Rattle.back.specs.Halves.{slotToRedo, leftBy, foundBy, undoBefore, redoBefore};
@@ -135,45 +131,6 @@ pub fn stands_as_found<'a>(
         Move::WriteMark { row, column, digit } => !has_mark(notes, cell_of(row, column), digit),
         Move::StrikeMark { row, column, digit } => has_mark(notes, cell_of(row, column), digit),
     }
-}
-
-// 14 of undo: the slot is sound, and what it changed stands as the move left it. `cells` are the peers that its mask speaks of.
-pub fn can_take_back<'a>(
-    digits: &'a [u8; 81],
-    given: &'a [bool; 81],
-    notes: &'a [u16; 81],
-    slot: Slot,
-    cells: [u8; 20],
-) -> bool
-    ensures { λ r. ⌜ r ≡ both (soundFor (now (given .entry)) slot) (leftBy (parts [] (now (digits .entry)) (now (notes .entry)) false) (moveOf slot) (slot .struck) cells) ⌝ }
-{
-    if is_sound(given, slot) {
-        return stands_as_left(digits, notes, move_of(slot), slot.struck, cells);
-    }
-    false
-}
-
-// 14 of redo: the slot is sound, and what it changes stands as the move found it. `cells` are the peers that its mask speaks of.
-pub fn can_retake<'a>(
-    digits: &'a [u8; 81],
-    given: &'a [bool; 81],
-    notes: &'a [u16; 81],
-    slot: Slot,
-    cells: [u8; 20],
-) -> bool
-    ensures { λ r. ⌜ r ≡ both (soundFor (now (given .entry)) slot) (foundBy (parts [] (now (digits .entry)) (now (notes .entry)) false) (moveOf slot) (slot .before) (slot .struck) cells) ⌝ }
-{
-    if is_sound(given, slot) {
-        return stands_as_found(
-            digits,
-            notes,
-            move_of(slot),
-            slot.before,
-            slot.struck,
-            cells,
-        );
-    }
-    false
 }
 
 // Why undo is refused before its slot is asked: 1 2 4 12. 0 where it is not.

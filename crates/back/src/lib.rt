@@ -4,16 +4,17 @@ pub mod asking;
 pub mod digits;
 pub mod marks;
 
-use asking::can_retake;
-use asking::can_take_back;
 use asking::number_of_redo;
 use asking::number_of_undo;
 use asking::slot_to_redo;
+use asking::stands_as_found;
+use asking::stands_as_left;
 use board::Answer;
 use board::Board;
 use digits::put_again;
 use digits::put_back;
 use journal::Counts;
+use journal::slots::is_sound;
 use journal::slots::move_of;
 use journal::slots::slot_at;
 use journal::steps::after_retake;
@@ -51,13 +52,14 @@ pub fn undo(board: Board, journal: &[u8]) -> Answer
     }
     let slot = slot_at(journal, board.standing);
     let cells = struck_cells(slot);
-    if !can_take_back(
+    let stands = stands_as_left(
         &answer.board.digits,
-        &answer.board.given,
         &answer.board.notes,
-        slot,
+        move_of(slot),
+        slot.struck,
         cells,
-    ) {
+    );
+    if !(is_sound(&answer.board.given, slot) & stands) {
         answer.refusal = refusal(14, board.standing, 0);
         return answer;
     }
@@ -99,13 +101,15 @@ pub fn redo(board: Board, journal: &[u8]) -> Answer
     let next = slot_to_redo(board.made, board.standing);
     let slot = slot_at(journal, next);
     let cells = struck_cells(slot);
-    if !can_retake(
+    let stands = stands_as_found(
         &answer.board.digits,
-        &answer.board.given,
         &answer.board.notes,
-        slot,
+        move_of(slot),
+        slot.before,
+        slot.struck,
         cells,
-    ) {
+    );
+    if !(is_sound(&answer.board.given, slot) & stands) {
         answer.refusal = refusal(14, next, 0);
         return answer;
     }

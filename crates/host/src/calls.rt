@@ -5,8 +5,8 @@ use crate::HostChecked;
 use crate::flag_of;
 use crate::flags_in;
 use crate::made_in;
-use crate::plain::can_retake;
-use crate::plain::can_take_back;
+use crate::plain::as_found;
+use crate::plain::as_left;
 use crate::plain::give_slot_back;
 use crate::plain::take_slot_again;
 use back::asking::number_of_redo;
@@ -17,6 +17,7 @@ use back::digits::put_back;
 use back::marks::struck_cells;
 use journal::Counts;
 use journal::Move;
+use journal::slots::is_sound;
 use journal::slots::slot_at;
 use journal::slots::write_slot;
 use journal::steps::after_record;
@@ -104,13 +105,8 @@ pub fn undo(board: HostBoard, journal: &[u8]) -> HostAnswer
     }
     let slot = slot_at(journal, board.standing);
     let cells = struck_cells(slot);
-    if !can_take_back(
-        &answer.board.digits,
-        &given,
-        &answer.board.notes,
-        slot,
-        cells,
-    ) {
+    let stands = as_left(&answer.board.digits, &answer.board.notes, slot, cells);
+    if !(is_sound(&given, slot) & stands) {
         answer.refusal = refusal(14, board.standing, 0);
         return answer;
     }
@@ -155,13 +151,8 @@ pub fn redo(board: HostBoard, journal: &[u8]) -> HostAnswer
     let next = slot_to_redo(made, board.standing);
     let slot = slot_at(journal, next);
     let cells = struck_cells(slot);
-    if !can_retake(
-        &answer.board.digits,
-        &given,
-        &answer.board.notes,
-        slot,
-        cells,
-    ) {
+    let stands = as_found(&answer.board.digits, &answer.board.notes, slot, cells);
+    if !(is_sound(&given, slot) & stands) {
         answer.refusal = refusal(14, next, 0);
         return answer;
     }

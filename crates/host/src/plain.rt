@@ -5,15 +5,13 @@ use back::asking::stands_as_left;
 use back::marks::give_back;
 use back::marks::take_again;
 use journal::Slot;
-use journal::slots::is_sound;
 use journal::slots::move_of;
 use puzzle::digit_at;
 use sudoku::cell_of;
 ghost use mathlib.Core.Path.{_≡_};
 ghost use mathlib.Core.Bool.{false};
 ghost use mathlib.Core.List.{[]};
-ghost use Rattle.sudoku.specs.Tests.{both};
-ghost use Rattle.journal.specs.Slots.{moveOf, soundFor};
+ghost use Rattle.journal.specs.Slots.{moveOf};
 ghost use Rattle.play.specs.Parts.{parts};
 ghost use Rattle.back.specs.Halves.{leftBy, foundBy, marksBack, marksAgain};
 ghost use Rattle.host.specs.Host.{isPlain};
@@ -29,7 +27,7 @@ fn is_plain(slot: Slot) -> bool
 }
 
 // What a slot changed stands as its move left it. Of a plain place the digit is asked alone.
-fn as_left<'a>(digits: &'a [u8; 81], notes: &'a [u16; 81], slot: Slot, cells: [u8; 20]) -> bool
+pub fn as_left<'a>(digits: &'a [u8; 81], notes: &'a [u16; 81], slot: Slot, cells: [u8; 20]) -> bool
     ensures { λ r. ⌜ r ≡ leftBy (parts [] (now (digits .entry)) (now (notes .entry)) false) (moveOf slot) (slot .struck) cells ⌝ }
 {
     if is_plain(slot) {
@@ -39,7 +37,7 @@ fn as_left<'a>(digits: &'a [u8; 81], notes: &'a [u16; 81], slot: Slot, cells: [u
 }
 
 // What a slot changes stands as its move found it. Of a plain place the digit is asked alone.
-fn as_found<'a>(digits: &'a [u8; 81], notes: &'a [u16; 81], slot: Slot, cells: [u8; 20]) -> bool
+pub fn as_found<'a>(digits: &'a [u8; 81], notes: &'a [u16; 81], slot: Slot, cells: [u8; 20]) -> bool
     ensures { λ r. ⌜ r ≡ foundBy (parts [] (now (digits .entry)) (now (notes .entry)) false) (moveOf slot) (slot .before) (slot .struck) cells ⌝ }
 {
     if is_plain(slot) {
@@ -53,38 +51,6 @@ fn as_found<'a>(digits: &'a [u8; 81], notes: &'a [u16; 81], slot: Slot, cells: [
         slot.struck,
         cells,
     )
-}
-
-// 14 of undo: the slot is sound, and what it changed stands as the move left it. `cells` are the peers that its mask speaks of.
-pub fn can_take_back<'a>(
-    digits: &'a [u8; 81],
-    given: &'a [bool; 81],
-    notes: &'a [u16; 81],
-    slot: Slot,
-    cells: [u8; 20],
-) -> bool
-    ensures { λ r. ⌜ r ≡ both (soundFor (now (given .entry)) slot) (leftBy (parts [] (now (digits .entry)) (now (notes .entry)) false) (moveOf slot) (slot .struck) cells) ⌝ }
-{
-    if is_sound(given, slot) {
-        return as_left(digits, notes, slot, cells);
-    }
-    false
-}
-
-// 14 of redo: the slot is sound, and what it changes stands as the move found it.
-pub fn can_retake<'a>(
-    digits: &'a [u8; 81],
-    given: &'a [bool; 81],
-    notes: &'a [u16; 81],
-    slot: Slot,
-    cells: [u8; 20],
-) -> bool
-    ensures { λ r. ⌜ r ≡ both (soundFor (now (given .entry)) slot) (foundBy (parts [] (now (digits .entry)) (now (notes .entry)) false) (moveOf slot) (slot .before) (slot .struck) cells) ⌝ }
-{
-    if is_sound(given, slot) {
-        return as_found(digits, notes, slot, cells);
-    }
-    false
 }
 
 // The marks of a slot given back in place; a plain place has none.

@@ -1,8 +1,8 @@
 -- `back::redo` meets its contract: the digit with the status, and the marks, are the whole.
 -- Assumes nothing.
-use mathlib.Core.Path.{_≡_, sym, ap, _∙_}
-use mathlib.Core.Bool.{not}
 use Prim.Native.Nat.{_+_}
+use mathlib.Core.Path.{_≡_, sym, ap, _∙_}
+use mathlib.Core.Bool.{not, _&&_}
 use Rattle.puzzle.specs.Refusals.{accepted}
 use Rattle.journal.specs.State.{State}
 use Rattle.journal.specs.Counts.{retaken}
@@ -27,7 +27,9 @@ refusal-requires : tie.Need-refusal-requires
 refusal-requires c κs = search needs
 
 returns : tie.Need-returns
-returns c = rw (c .refusal .ensures) (redo-stopped (c .before .before .before .before .before .before .before .before .before .before .args .board) (c .before .before .before .before .before .before .before .before .before .before .args .journal .now) _ (c .before .before .number-of-redo .ensures .0) (c .before .before .number-of-redo .ensures .1) (c .before .if1 .taken))
+returns c =
+    let a = c .before .before .before .before .before .before .before .before .before .before .args in
+    rw (c .refusal .ensures) (redo-stopped (a .board) (a .journal .now) _ (c .before .before .number-of-redo .ensures .0) (c .before .before .number-of-redo .ensures .1) (c .before .if1 .taken))
 
 slot-to-redo-requires : tie.Need-slot-to-redo-requires
 slot-to-redo-requires c κs = search needs
@@ -38,8 +40,14 @@ slot-at-requires c κs = search needs
 struck-cells-requires : tie.Need-struck-cells-requires
 struck-cells-requires c κs = search needs
 
-can-retake-requires : tie.Need-can-retake-requires
-can-retake-requires c κs = search needs
+move-of-requires : tie.Need-move-of-requires
+move-of-requires c κs = search needs
+
+stands-as-found-requires : tie.Need-stands-as-found-requires
+stands-as-found-requires c κs = search needs
+
+is-sound-requires : tie.Need-is-sound-requires
+is-sound-requires c κs = search needs
 
 refusal-requires-2 : tie.Need-refusal-requires-2
 refusal-requires-2 c κs = search needs
@@ -47,10 +55,11 @@ refusal-requires-2 c κs = search needs
 returns-2 : tie.Need-returns-2
 unfolding stateOf
 returns-2 c =
-    let a = c .before .before .before .before .before .before .before .before .before .before .before .before .before .before .before .before .before .before .before .args in
-    let nth = c .before .before .before .before .before .before .before .before .before .slot-to-redo .ensures ∙ next-standing (a .board .made) (a .board .standing) (redo-more (a .board) (a .journal .now) _ (c .before .before .before .before .before .before .before .before .before .before .before .number-of-redo .ensures .0) (c .before .before .before .before .before .before .before .before .before .before .if1 .left)) in
-    let ok : canRetake (stateOf (a .board)) (slotAt (a .journal .now) (a .board .standing + 1)) ≡ _ = sym ((rw (c .before .before .before .before .before .before .before .struck-cells .ensures, c .before .before .before .before .before .before .before .before .slot-at .ensures, nth) at (c .before .before .can-retake .ensures)) ∙ retake-parts (stateOf (a .board)) (slotAt (a .journal .now) (a .board .standing + 1))) in
-    rw (c .refusal2 .ensures, nth) (redo-unfit (a .board) (a .journal .now) _ (c .before .before .before .before .before .before .before .before .before .before .before .number-of-redo .ensures .0) (c .before .before .before .before .before .before .before .before .before .before .if1 .left) (ap not ok ∙ c .before .if2 .taken))
+    let a = c .before .before .before .before .before .before .before .before .before .before .before .before .before .before .before .before .before .before .before .before .before .before .args in
+    let nth = c .before .before .before .before .before .before .before .before .before .before .before .before .slot-to-redo .ensures ∙ next-standing (a .board .made) (a .board .standing) (redo-more (a .board) (a .journal .now) _ (c .before .before .before .before .before .before .before .before .before .before .before .before .before .before .number-of-redo .ensures .0) (c .before .before .before .before .before .before .before .before .before .before .before .before .before .if1 .left)) in
+    let ok : canRetake (stateOf (a .board)) (slotAt (a .journal .now) (a .board .standing + 1)) ≡ (c .before .before .is-sound .result && c .before .before .before .before .before .stands-as-found .result) =
+    rw (c .before .before .is-sound .ensures, c .before .before .before .before .before .stands-as-found .ensures, c .before .before .before .before .before .before .move-of .ensures, c .before .before .before .before .before .before .before .before .before .before .struck-cells .ensures, c .before .before .before .before .before .before .before .before .before .before .before .slot-at .ensures, nth) (sym (retake-parts (stateOf (a .board)) (slotAt (a .journal .now) (a .board .standing + 1)))) in
+    rw (c .refusal2 .ensures, nth) (redo-unfit (a .board) (a .journal .now) _ (c .before .before .before .before .before .before .before .before .before .before .before .before .before .before .number-of-redo .ensures .0) (c .before .before .before .before .before .before .before .before .before .before .before .before .before .if1 .left) (ap not ok ∙ c .before .if2 .taken))
 
 after-retake-requires : tie.Need-after-retake-requires
 after-retake-requires c κs = search needs
@@ -58,8 +67,8 @@ after-retake-requires c κs = search needs
 put-again-requires : tie.Need-put-again-requires
 put-again-requires c κs = search needs
 
-move-of-requires : tie.Need-move-of-requires
-move-of-requires c κs = search needs
+move-of-requires-2 : tie.Need-move-of-requires-2
+move-of-requires-2 c κs = search needs
 
 take-again-requires : tie.Need-take-again-requires
 take-again-requires c κs = search needs
@@ -67,11 +76,12 @@ take-again-requires c κs = search needs
 returns-3 : tie.Need-returns-3
 unfolding redone moved boardOf stateOf countsOf
 returns-3 c =
-    let a = c .before .before .before .before .before .before .before .before .before .before .before .before .before .before .before .before .before .before .before .before .before .before .before .before .before .before .before .args in
-    let nth = c .before .before .before .before .before .before .before .before .before .before .before .before .before .before .before .before .before .slot-to-redo .ensures ∙ next-standing (a .board .made) (a .board .standing) (redo-more (a .board) (a .journal .now) _ (c .before .before .before .before .before .before .before .before .before .before .before .before .before .before .before .before .before .before .before .number-of-redo .ensures .0) (c .before .before .before .before .before .before .before .before .before .before .before .before .before .before .before .before .before .before .if1 .left)) in
-    let ok : canRetake (stateOf (a .board)) (slotAt (a .journal .now) (a .board .standing + 1)) ≡ _ = sym ((rw (c .before .before .before .before .before .before .before .before .before .before .before .before .before .before .before .struck-cells .ensures, c .before .before .before .before .before .before .before .before .before .before .before .before .before .before .before .before .slot-at .ensures, nth) at (c .before .before .before .before .before .before .before .before .before .before .can-retake .ensures)) ∙ retake-parts (stateOf (a .board)) (slotAt (a .journal .now) (a .board .standing + 1))) in
-    let none = redo-fit (a .board) (a .journal .now) _ (c .before .before .before .before .before .before .before .before .before .before .before .before .before .before .before .before .before .before .before .number-of-redo .ensures .0) (c .before .before .before .before .before .before .before .before .before .before .before .before .before .before .before .before .before .before .if1 .left) (ap not ok ∙ c .before .before .before .before .before .before .before .before .before .if2 .left) in
-    rw (c .before .before .before .before .before .before .before .before .before .before .before .before .before .before .before .before .before .before .before .before .before .before .before .before .before .accepted .ensures, c .before .before .before .take-again .ensures, c .before .before .before .before .move-of .ensures, c .before .before .before .before .before .before .put-again .ensures .0, c .before .before .before .before .before .before .put-again .ensures .1, c .before .before .before .before .before .before .before .before .after-retake .ensures, c .before .before .before .before .before .before .before .before .before .before .before .before .before .before .before .struck-cells .ensures, c .before .before .before .before .before .before .before .before .before .before .before .before .before .before .before .before .slot-at .ensures, nth)
+    let a = c .before .before .before .before .before .before .before .before .before .before .before .before .before .before .before .before .before .before .before .before .before .before .before .before .before .before .before .before .before .before .args in
+    let nth = c .before .before .before .before .before .before .before .before .before .before .before .before .before .before .before .before .before .before .before .before .slot-to-redo .ensures ∙ next-standing (a .board .made) (a .board .standing) (redo-more (a .board) (a .journal .now) _ (c .before .before .before .before .before .before .before .before .before .before .before .before .before .before .before .before .before .before .before .before .before .before .number-of-redo .ensures .0) (c .before .before .before .before .before .before .before .before .before .before .before .before .before .before .before .before .before .before .before .before .before .if1 .left)) in
+    let ok : canRetake (stateOf (a .board)) (slotAt (a .journal .now) (a .board .standing + 1)) ≡ (c .before .before .before .before .before .before .before .before .before .before .is-sound .result && c .before .before .before .before .before .before .before .before .before .before .before .before .before .stands-as-found .result) =
+    rw (c .before .before .before .before .before .before .before .before .before .before .is-sound .ensures, c .before .before .before .before .before .before .before .before .before .before .before .before .before .stands-as-found .ensures, c .before .before .before .before .before .before .before .before .before .before .before .before .before .before .move-of .ensures, c .before .before .before .before .before .before .before .before .before .before .before .before .before .before .before .before .before .before .struck-cells .ensures, c .before .before .before .before .before .before .before .before .before .before .before .before .before .before .before .before .before .before .before .slot-at .ensures, nth) (sym (retake-parts (stateOf (a .board)) (slotAt (a .journal .now) (a .board .standing + 1)))) in
+    let none = redo-fit (a .board) (a .journal .now) _ (c .before .before .before .before .before .before .before .before .before .before .before .before .before .before .before .before .before .before .before .before .before .before .number-of-redo .ensures .0) (c .before .before .before .before .before .before .before .before .before .before .before .before .before .before .before .before .before .before .before .before .before .if1 .left) (ap not ok ∙ c .before .before .before .before .before .before .before .before .before .if2 .left) in
+    rw (c .before .before .before .before .before .before .before .before .before .before .before .before .before .before .before .before .before .before .before .before .before .before .before .before .before .before .before .before .accepted .ensures, c .before .before .before .take-again .ensures, c .before .before .before .before .move-of2 .ensures, c .before .before .before .before .before .before .put-again .ensures .0, c .before .before .before .before .before .before .put-again .ensures .1, c .before .before .before .before .before .before .before .before .after-retake .ensures, c .before .before .before .before .before .before .before .before .before .before .before .before .before .before .before .before .before .before .struck-cells .ensures, c .before .before .before .before .before .before .before .before .before .before .before .before .before .before .before .before .before .before .before .slot-at .ensures, nth)
     (ap (λ (s : State). answer accepted (moved (a .board) s (retaken (countsOf (a .board))))) (again-parts (stateOf (a .board)) (slotAt (a .journal .now) (a .board .standing + 1))) ∙ redo-made (a .board) (a .journal .now) none)
 
 pub redo-spec : {M : Type 1} → statement M
@@ -85,11 +95,13 @@ redo-spec =
     slot-to-redo-requires
     slot-at-requires
     struck-cells-requires
-    can-retake-requires
+    move-of-requires
+    stands-as-found-requires
+    is-sound-requires
     refusal-requires-2
     returns-2
     after-retake-requires
     put-again-requires
-    move-of-requires
+    move-of-requires-2
     take-again-requires
     returns-3)

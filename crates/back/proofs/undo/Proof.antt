@@ -1,7 +1,7 @@
 -- `back::undo` meets its contract: the digit with the status, and the marks, are the whole.
 -- Assumes nothing.
 use mathlib.Core.Path.{_≡_, sym, ap, _∙_}
-use mathlib.Core.Bool.{not}
+use mathlib.Core.Bool.{not, _&&_}
 use Rattle.puzzle.specs.Refusals.{accepted}
 use Rattle.journal.specs.State.{State}
 use Rattle.journal.specs.Counts.{takenBack}
@@ -26,7 +26,9 @@ refusal-requires : tie.Need-refusal-requires
 refusal-requires c κs = search needs
 
 returns : tie.Need-returns
-returns c = rw (c .refusal .ensures) (undo-stopped (c .before .before .before .before .before .before .before .before .before .before .args .board) (c .before .before .before .before .before .before .before .before .before .before .args .journal .now) _ (c .before .before .number-of-undo .ensures .0) (c .before .before .number-of-undo .ensures .1) (c .before .if1 .taken))
+returns c =
+    let a = c .before .before .before .before .before .before .before .before .before .before .args in
+    rw (c .refusal .ensures) (undo-stopped (a .board) (a .journal .now) _ (c .before .before .number-of-undo .ensures .0) (c .before .before .number-of-undo .ensures .1) (c .before .if1 .taken))
 
 slot-at-requires : tie.Need-slot-at-requires
 slot-at-requires c κs = search needs
@@ -34,8 +36,14 @@ slot-at-requires c κs = search needs
 struck-cells-requires : tie.Need-struck-cells-requires
 struck-cells-requires c κs = search needs
 
-can-take-back-requires : tie.Need-can-take-back-requires
-can-take-back-requires c κs = search needs
+move-of-requires : tie.Need-move-of-requires
+move-of-requires c κs = search needs
+
+stands-as-left-requires : tie.Need-stands-as-left-requires
+stands-as-left-requires c κs = search needs
+
+is-sound-requires : tie.Need-is-sound-requires
+is-sound-requires c κs = search needs
 
 refusal-requires-2 : tie.Need-refusal-requires-2
 refusal-requires-2 c κs = search needs
@@ -43,9 +51,10 @@ refusal-requires-2 c κs = search needs
 returns-2 : tie.Need-returns-2
 unfolding stateOf
 returns-2 c =
-    let a = c .before .before .before .before .before .before .before .before .before .before .before .before .before .before .before .before .before .before .args in
-    let ok : canTakeBack (stateOf (a .board)) (slotAt (a .journal .now) (a .board .standing)) ≡ _ = sym ((rw (c .before .before .before .before .before .before .before .struck-cells .ensures, c .before .before .before .before .before .before .before .before .slot-at .ensures) at (c .before .before .can-take-back .ensures)) ∙ take-back-parts (stateOf (a .board)) (slotAt (a .journal .now) (a .board .standing))) in
-    rw (c .refusal2 .ensures) (undo-unfit (a .board) (a .journal .now) _ (c .before .before .before .before .before .before .before .before .before .before .number-of-undo .ensures .0) (c .before .before .before .before .before .before .before .before .before .if1 .left) (ap not ok ∙ c .before .if2 .taken))
+    let a = c .before .before .before .before .before .before .before .before .before .before .before .before .before .before .before .before .before .before .before .before .before .args in
+    let ok : canTakeBack (stateOf (a .board)) (slotAt (a .journal .now) (a .board .standing)) ≡ (c .before .before .is-sound .result && c .before .before .before .before .before .stands-as-left .result) =
+    rw (c .before .before .is-sound .ensures, c .before .before .before .before .before .stands-as-left .ensures, c .before .before .before .before .before .before .move-of .ensures, c .before .before .before .before .before .before .before .before .before .before .struck-cells .ensures, c .before .before .before .before .before .before .before .before .before .before .before .slot-at .ensures) (sym (take-back-parts (stateOf (a .board)) (slotAt (a .journal .now) (a .board .standing)))) in
+    rw (c .refusal2 .ensures) (undo-unfit (a .board) (a .journal .now) _ (c .before .before .before .before .before .before .before .before .before .before .before .before .before .number-of-undo .ensures .0) (c .before .before .before .before .before .before .before .before .before .before .before .before .if1 .left) (ap not ok ∙ c .before .if2 .taken))
 
 after-take-back-requires : tie.Need-after-take-back-requires
 after-take-back-requires c κs = search needs
@@ -53,8 +62,8 @@ after-take-back-requires c κs = search needs
 put-back-requires : tie.Need-put-back-requires
 put-back-requires c κs = search needs
 
-move-of-requires : tie.Need-move-of-requires
-move-of-requires c κs = search needs
+move-of-requires-2 : tie.Need-move-of-requires-2
+move-of-requires-2 c κs = search needs
 
 give-back-requires : tie.Need-give-back-requires
 give-back-requires c κs = search needs
@@ -62,10 +71,11 @@ give-back-requires c κs = search needs
 returns-3 : tie.Need-returns-3
 unfolding undone moved boardOf stateOf countsOf
 returns-3 c =
-    let a = c .before .before .before .before .before .before .before .before .before .before .before .before .before .before .before .before .before .before .before .before .before .before .before .before .before .before .args in
-    let ok : canTakeBack (stateOf (a .board)) (slotAt (a .journal .now) (a .board .standing)) ≡ _ = sym ((rw (c .before .before .before .before .before .before .before .before .before .before .before .before .before .before .before .struck-cells .ensures, c .before .before .before .before .before .before .before .before .before .before .before .before .before .before .before .before .slot-at .ensures) at (c .before .before .before .before .before .before .before .before .before .before .can-take-back .ensures)) ∙ take-back-parts (stateOf (a .board)) (slotAt (a .journal .now) (a .board .standing))) in
-    let none = undo-fit (a .board) (a .journal .now) _ (c .before .before .before .before .before .before .before .before .before .before .before .before .before .before .before .before .before .before .number-of-undo .ensures .0) (c .before .before .before .before .before .before .before .before .before .before .before .before .before .before .before .before .before .if1 .left) (ap not ok ∙ c .before .before .before .before .before .before .before .before .before .if2 .left) in
-    rw (c .before .before .before .before .before .before .before .before .before .before .before .before .before .before .before .before .before .before .before .before .before .before .before .before .accepted .ensures, c .before .before .before .give-back .ensures, c .before .before .before .before .move-of .ensures, c .before .before .before .before .before .before .put-back .ensures .0, c .before .before .before .before .before .before .put-back .ensures .1, c .before .before .before .before .before .before .before .before .after-take-back .ensures, c .before .before .before .before .before .before .before .before .before .before .before .before .before .before .before .struck-cells .ensures, c .before .before .before .before .before .before .before .before .before .before .before .before .before .before .before .before .slot-at .ensures)
+    let a = c .before .before .before .before .before .before .before .before .before .before .before .before .before .before .before .before .before .before .before .before .before .before .before .before .before .before .before .before .before .args in
+    let ok : canTakeBack (stateOf (a .board)) (slotAt (a .journal .now) (a .board .standing)) ≡ (c .before .before .before .before .before .before .before .before .before .before .is-sound .result && c .before .before .before .before .before .before .before .before .before .before .before .before .before .stands-as-left .result) =
+    rw (c .before .before .before .before .before .before .before .before .before .before .is-sound .ensures, c .before .before .before .before .before .before .before .before .before .before .before .before .before .stands-as-left .ensures, c .before .before .before .before .before .before .before .before .before .before .before .before .before .before .move-of .ensures, c .before .before .before .before .before .before .before .before .before .before .before .before .before .before .before .before .before .before .struck-cells .ensures, c .before .before .before .before .before .before .before .before .before .before .before .before .before .before .before .before .before .before .before .slot-at .ensures) (sym (take-back-parts (stateOf (a .board)) (slotAt (a .journal .now) (a .board .standing)))) in
+    let none = undo-fit (a .board) (a .journal .now) _ (c .before .before .before .before .before .before .before .before .before .before .before .before .before .before .before .before .before .before .before .before .before .number-of-undo .ensures .0) (c .before .before .before .before .before .before .before .before .before .before .before .before .before .before .before .before .before .before .before .before .if1 .left) (ap not ok ∙ c .before .before .before .before .before .before .before .before .before .if2 .left) in
+    rw (c .before .before .before .before .before .before .before .before .before .before .before .before .before .before .before .before .before .before .before .before .before .before .before .before .before .before .before .accepted .ensures, c .before .before .before .give-back .ensures, c .before .before .before .before .move-of2 .ensures, c .before .before .before .before .before .before .put-back .ensures .0, c .before .before .before .before .before .before .put-back .ensures .1, c .before .before .before .before .before .before .before .before .after-take-back .ensures, c .before .before .before .before .before .before .before .before .before .before .before .before .before .before .before .before .before .before .struck-cells .ensures, c .before .before .before .before .before .before .before .before .before .before .before .before .before .before .before .before .before .before .before .slot-at .ensures)
     (ap (λ (s : State). answer accepted (moved (a .board) s (takenBack (countsOf (a .board))))) (back-parts (stateOf (a .board)) (slotAt (a .journal .now) (a .board .standing))) ∙ undo-made (a .board) (a .journal .now) none)
 
 pub undo-spec : {M : Type 1} → statement M
@@ -78,11 +88,13 @@ undo-spec =
     returns
     slot-at-requires
     struck-cells-requires
-    can-take-back-requires
+    move-of-requires
+    stands-as-left-requires
+    is-sound-requires
     refusal-requires-2
     returns-2
     after-take-back-requires
     put-back-requires
-    move-of-requires
+    move-of-requires-2
     give-back-requires
     returns-3)

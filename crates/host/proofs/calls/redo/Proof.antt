@@ -2,7 +2,7 @@
 -- Assumes nothing.
 use Prim.Native.Nat.{_+_}
 use mathlib.Core.Path.{_≡_, sym, ap, _∙_}
-use mathlib.Core.Bool.{not}
+use mathlib.Core.Bool.{not, _&&_}
 use native.Mathlib.Omega.{arith}
 use lib.ListN.{length}
 use Rattle.journal.specs.Slots.{slotAt}
@@ -52,8 +52,11 @@ slot-at-requires c κs = search needs
 struck-cells-requires : tie.Need-struck-cells-requires
 struck-cells-requires c κs = search needs
 
-can-retake-requires : tie.Need-can-retake-requires
-can-retake-requires c κs = search needs
+as-found-requires : tie.Need-as-found-requires
+as-found-requires c κs = search needs
+
+is-sound-requires : tie.Need-is-sound-requires
+is-sound-requires c κs = search needs
 
 refusal-requires-2 : tie.Need-refusal-requires-2
 refusal-requires-2 c κs = search needs
@@ -61,13 +64,14 @@ refusal-requires-2 c κs = search needs
 returns-2 : tie.Need-returns-2
 unfolding redoBefore lentBy isBoard boardIn madeIn hasFlags stateOf
 returns-2 c =
-    let a = c .before .before .before .before .before .before .before .before .before .before .before .before .before .before .before .before .before .before .before .before .before .before .before .before .before .before .args in
-    let e = rw (c .before .before .before .before .before .before .before .before .before .before .before .before .before .before .before .before .before .made-in .ensures, c .before .before .before .before .before .before .before .before .before .before .before .before .before .before .before .before .before .before .before .before .flags-in .ensures) at (c .before .before .before .before .before .before .before .before .before .before .before .number-of-redo .ensures .0) in
-    let nth = (rw (c .before .before .before .before .before .before .before .before .before .before .before .before .before .before .before .before .before .made-in .ensures) at (c .before .before .before .before .before .before .before .before .before .slot-to-redo .ensures)) ∙ next-standing (madeIn (a .board)) (a .board .standing) (redo-more (boardIn (a .board)) (a .journal .now) _ e (c .before .before .before .before .before .before .before .before .before .before .if1 .left)) in
-    let ok : canRetake (stateOf (boardIn (a .board))) (slotAt (a .journal .now) (a .board .standing + 1)) ≡ _ = sym ((rw (c .before .before .before .before .before .before .before .struck-cells .ensures, c .before .before .before .before .before .before .before .before .slot-at .ensures, nth, c .before .before .before .before .before .before .before .before .before .before .before .before .before .before .before .before .before .before .before .before .flags-in .ensures) at (c .before .before .can-retake .ensures)) ∙ retake-parts (stateOf (boardIn (a .board))) (slotAt (a .journal .now) (a .board .standing + 1))) in
+    let a = c .before .before .before .before .before .before .before .before .before .before .before .before .before .before .before .before .before .before .before .before .before .before .before .before .before .before .before .args in
+    let e = rw (c .before .before .before .before .before .before .before .before .before .before .before .before .before .before .before .before .before .before .made-in .ensures, c .before .before .before .before .before .before .before .before .before .before .before .before .before .before .before .before .before .before .before .before .before .flags-in .ensures) at (c .before .before .before .before .before .before .before .before .before .before .before .before .number-of-redo .ensures .0) in
+    let nth = (rw (c .before .before .before .before .before .before .before .before .before .before .before .before .before .before .before .before .before .before .made-in .ensures) at (c .before .before .before .before .before .before .before .before .before .before .slot-to-redo .ensures)) ∙ next-standing (madeIn (a .board)) (a .board .standing) (redo-more (boardIn (a .board)) (a .journal .now) _ e (c .before .before .before .before .before .before .before .before .before .before .before .if1 .left)) in
+    let ok : canRetake (stateOf (boardIn (a .board))) (slotAt (a .journal .now) (a .board .standing + 1)) ≡ (c .before .before .is-sound .result && c .before .before .before .before .as-found .result) =
+    rw (c .before .before .is-sound .ensures, c .before .before .before .before .as-found .ensures, c .before .before .before .before .before .before .before .before .struck-cells .ensures, c .before .before .before .before .before .before .before .before .before .slot-at .ensures, nth, c .before .before .before .before .before .before .before .before .before .before .before .before .before .before .before .before .before .before .before .before .before .flags-in .ensures) (sym (retake-parts (stateOf (boardIn (a .board))) (slotAt (a .journal .now) (a .board .standing + 1)))) in
     rw (c .refusal2 .ensures, nth)
     (answered-refused (a .board) 14 (a .board .standing + 1) (boardIn (a .board)) (λ p. omega (arith, p))
-    ∙ ap (answered (a .board)) (redo-unfit (boardIn (a .board)) (a .journal .now) _ e (c .before .before .before .before .before .before .before .before .before .before .if1 .left) (ap not ok ∙ c .before .if2 .taken)))
+    ∙ ap (answered (a .board)) (redo-unfit (boardIn (a .board)) (a .journal .now) _ e (c .before .before .before .before .before .before .before .before .before .before .before .if1 .left) (ap not ok ∙ c .before .if2 .taken)))
 
 after-retake-requires : tie.Need-after-retake-requires
 after-retake-requires c κs = search needs
@@ -84,14 +88,15 @@ flag-of-requires c κs = search needs
 returns-3 : tie.Need-returns-3
 unfolding redoBefore lentBy isBoard boardIn madeIn hasFlags stateOf
 returns-3 c =
-    let a = c .before .before .before .before .before .before .before .before .before .before .before .before .before .before .before .before .before .before .before .before .before .before .before .before .before .before .before .before .before .before .before .before .before .before .args in
-    let e = rw (c .before .before .before .before .before .before .before .before .before .before .before .before .before .before .before .before .before .before .before .before .before .before .before .before .before .made-in .ensures, c .before .before .before .before .before .before .before .before .before .before .before .before .before .before .before .before .before .before .before .before .before .before .before .before .before .before .before .before .flags-in .ensures) at (c .before .before .before .before .before .before .before .before .before .before .before .before .before .before .before .before .before .before .before .number-of-redo .ensures .0) in
-    let nth = (rw (c .before .before .before .before .before .before .before .before .before .before .before .before .before .before .before .before .before .before .before .before .before .before .before .before .before .made-in .ensures) at (c .before .before .before .before .before .before .before .before .before .before .before .before .before .before .before .before .before .slot-to-redo .ensures)) ∙ next-standing (madeIn (a .board)) (a .board .standing) (redo-more (boardIn (a .board)) (a .journal .now) _ e (c .before .before .before .before .before .before .before .before .before .before .before .before .before .before .before .before .before .before .if1 .left)) in
-    let ok : canRetake (stateOf (boardIn (a .board))) (slotAt (a .journal .now) (a .board .standing + 1)) ≡ _ = sym ((rw (c .before .before .before .before .before .before .before .before .before .before .before .before .before .before .before .struck-cells .ensures, c .before .before .before .before .before .before .before .before .before .before .before .before .before .before .before .before .slot-at .ensures, nth, c .before .before .before .before .before .before .before .before .before .before .before .before .before .before .before .before .before .before .before .before .before .before .before .before .before .before .before .before .flags-in .ensures) at (c .before .before .before .before .before .before .before .before .before .before .can-retake .ensures)) ∙ retake-parts (stateOf (boardIn (a .board))) (slotAt (a .journal .now) (a .board .standing + 1))) in
-    let n : length (a .board .given) ≡ 81 = search (needs, c .before .before .before .before .before .before .before .before .before .before .before .before .before .before .before .before .before .before .before .before .before .before .before .before .before .before .before .before .before .before .before .before .before .before .good) in
-    let none = redo-fit (boardIn (a .board)) (a .journal .now) _ e (c .before .before .before .before .before .before .before .before .before .before .before .before .before .before .before .before .before .before .if1 .left) (ap not ok ∙ c .before .before .before .before .before .before .before .before .before .if2 .left) in
+    let a = c .before .before .before .before .before .before .before .before .before .before .before .before .before .before .before .before .before .before .before .before .before .before .before .before .before .before .before .before .before .before .before .before .before .before .before .args in
+    let e = rw (c .before .before .before .before .before .before .before .before .before .before .before .before .before .before .before .before .before .before .before .before .before .before .before .before .before .before .made-in .ensures, c .before .before .before .before .before .before .before .before .before .before .before .before .before .before .before .before .before .before .before .before .before .before .before .before .before .before .before .before .before .flags-in .ensures) at (c .before .before .before .before .before .before .before .before .before .before .before .before .before .before .before .before .before .before .before .before .number-of-redo .ensures .0) in
+    let nth = (rw (c .before .before .before .before .before .before .before .before .before .before .before .before .before .before .before .before .before .before .before .before .before .before .before .before .before .before .made-in .ensures) at (c .before .before .before .before .before .before .before .before .before .before .before .before .before .before .before .before .before .before .slot-to-redo .ensures)) ∙ next-standing (madeIn (a .board)) (a .board .standing) (redo-more (boardIn (a .board)) (a .journal .now) _ e (c .before .before .before .before .before .before .before .before .before .before .before .before .before .before .before .before .before .before .before .if1 .left)) in
+    let ok : canRetake (stateOf (boardIn (a .board))) (slotAt (a .journal .now) (a .board .standing + 1)) ≡ (c .before .before .before .before .before .before .before .before .before .before .is-sound .result && c .before .before .before .before .before .before .before .before .before .before .before .before .as-found .result) =
+    rw (c .before .before .before .before .before .before .before .before .before .before .is-sound .ensures, c .before .before .before .before .before .before .before .before .before .before .before .before .as-found .ensures, c .before .before .before .before .before .before .before .before .before .before .before .before .before .before .before .before .struck-cells .ensures, c .before .before .before .before .before .before .before .before .before .before .before .before .before .before .before .before .before .slot-at .ensures, nth, c .before .before .before .before .before .before .before .before .before .before .before .before .before .before .before .before .before .before .before .before .before .before .before .before .before .before .before .before .before .flags-in .ensures) (sym (retake-parts (stateOf (boardIn (a .board))) (slotAt (a .journal .now) (a .board .standing + 1)))) in
+    let n : length (a .board .given) ≡ 81 = search (needs, c .before .before .before .before .before .before .before .before .before .before .before .before .before .before .before .before .before .before .before .before .before .before .before .before .before .before .before .before .before .before .before .before .before .before .before .good) in
+    let none = redo-fit (boardIn (a .board)) (a .journal .now) _ e (c .before .before .before .before .before .before .before .before .before .before .before .before .before .before .before .before .before .before .before .if1 .left) (ap not ok ∙ c .before .before .before .before .before .before .before .before .before .if2 .left) in
     let kept = flags-kept (a .board .given) n (counted-flags (a .board) (redo-counted (a .board) (a .journal .now) none)) in
-    rw (c .before .before .before .before .before .before .before .before .before .before .before .before .before .before .before .before .before .before .before .before .before .before .before .before .before .before .before .before .before .before .before .before .accepted .ensures, c .before .before .before .flag-of .ensures, c .before .before .before .before .take-slot-again .ensures, c .before .before .before .before .before .before .put-again .ensures .0, c .before .before .before .before .before .before .put-again .ensures .1, c .before .before .before .before .before .before .before .before .after-retake .ensures, c .before .before .before .before .before .before .before .before .before .before .before .before .before .before .before .struck-cells .ensures, c .before .before .before .before .before .before .before .before .before .before .before .before .before .before .before .before .slot-at .ensures, nth, c .before .before .before .before .before .before .before .before .before .before .before .before .before .before .before .before .before .before .before .before .before .before .before .before .before .made-in .ensures)
+    rw (c .before .before .before .before .before .before .before .before .before .before .before .before .before .before .before .before .before .before .before .before .before .before .before .before .before .before .before .before .before .before .before .before .before .accepted .ensures, c .before .before .before .flag-of .ensures, c .before .before .before .before .take-slot-again .ensures, c .before .before .before .before .before .before .put-again .ensures .0, c .before .before .before .before .before .before .put-again .ensures .1, c .before .before .before .before .before .before .before .before .after-retake .ensures, c .before .before .before .before .before .before .before .before .before .before .before .before .before .before .before .before .struck-cells .ensures, c .before .before .before .before .before .before .before .before .before .before .before .before .before .before .before .before .before .slot-at .ensures, nth, c .before .before .before .before .before .before .before .before .before .before .before .before .before .before .before .before .before .before .before .before .before .before .before .before .before .before .made-in .ensures)
     (redo-left (a .board) (slotAt (a .journal .now) (a .board .standing + 1)) kept ∙ ap (answered (a .board)) (redo-made (boardIn (a .board)) (a .journal .now) none))
 
 pub redo-spec : {M : Type 1} → statement M
@@ -107,7 +112,8 @@ redo-spec =
     slot-to-redo-requires
     slot-at-requires
     struck-cells-requires
-    can-retake-requires
+    as-found-requires
+    is-sound-requires
     refusal-requires-2
     returns-2
     after-retake-requires

@@ -1,7 +1,7 @@
 -- `host::calls::undo` meets its contract. A refused call hands the host's board back.
 -- Assumes nothing.
 use mathlib.Core.Path.{_≡_, sym, ap, _∙_}
-use mathlib.Core.Bool.{not}
+use mathlib.Core.Bool.{not, _&&_}
 use native.Mathlib.Omega.{arith}
 use lib.ListN.{length}
 use Rattle.journal.specs.Slots.{slotAt}
@@ -47,8 +47,11 @@ slot-at-requires c κs = search needs
 struck-cells-requires : tie.Need-struck-cells-requires
 struck-cells-requires c κs = search needs
 
-can-take-back-requires : tie.Need-can-take-back-requires
-can-take-back-requires c κs = search needs
+as-left-requires : tie.Need-as-left-requires
+as-left-requires c κs = search needs
+
+is-sound-requires : tie.Need-is-sound-requires
+is-sound-requires c κs = search needs
 
 refusal-requires-2 : tie.Need-refusal-requires-2
 refusal-requires-2 c κs = search needs
@@ -56,12 +59,13 @@ refusal-requires-2 c κs = search needs
 returns-2 : tie.Need-returns-2
 unfolding undoBefore lentBy isBoard boardIn madeIn hasFlags stateOf
 returns-2 c =
-    let a = c .before .before .before .before .before .before .before .before .before .before .before .before .before .before .before .before .before .before .before .before .before .before .before .before .before .args in
-    let e = rw (c .before .before .before .before .before .before .before .before .before .before .before .before .before .before .before .before .made-in .ensures, c .before .before .before .before .before .before .before .before .before .before .before .before .before .before .before .before .before .before .before .flags-in .ensures) at (c .before .before .before .before .before .before .before .before .before .before .number-of-undo .ensures .0) in
-    let ok : canTakeBack (stateOf (boardIn (a .board))) (slotAt (a .journal .now) (a .board .standing)) ≡ _ = sym ((rw (c .before .before .before .before .before .before .before .struck-cells .ensures, c .before .before .before .before .before .before .before .before .slot-at .ensures, c .before .before .before .before .before .before .before .before .before .before .before .before .before .before .before .before .before .before .before .flags-in .ensures) at (c .before .before .can-take-back .ensures)) ∙ take-back-parts (stateOf (boardIn (a .board))) (slotAt (a .journal .now) (a .board .standing))) in
+    let a = c .before .before .before .before .before .before .before .before .before .before .before .before .before .before .before .before .before .before .before .before .before .before .before .before .before .before .args in
+    let e = rw (c .before .before .before .before .before .before .before .before .before .before .before .before .before .before .before .before .before .made-in .ensures, c .before .before .before .before .before .before .before .before .before .before .before .before .before .before .before .before .before .before .before .before .flags-in .ensures) at (c .before .before .before .before .before .before .before .before .before .before .before .number-of-undo .ensures .0) in
+    let ok : canTakeBack (stateOf (boardIn (a .board))) (slotAt (a .journal .now) (a .board .standing)) ≡ (c .before .before .is-sound .result && c .before .before .before .before .as-left .result) =
+    rw (c .before .before .is-sound .ensures, c .before .before .before .before .as-left .ensures, c .before .before .before .before .before .before .before .before .struck-cells .ensures, c .before .before .before .before .before .before .before .before .before .slot-at .ensures, c .before .before .before .before .before .before .before .before .before .before .before .before .before .before .before .before .before .before .before .before .flags-in .ensures) (sym (take-back-parts (stateOf (boardIn (a .board))) (slotAt (a .journal .now) (a .board .standing)))) in
     rw (c .refusal2 .ensures)
     (answered-refused (a .board) 14 (a .board .standing) (boardIn (a .board)) (λ p. omega (arith, p))
-    ∙ ap (answered (a .board)) (undo-unfit (boardIn (a .board)) (a .journal .now) _ e (c .before .before .before .before .before .before .before .before .before .if1 .left) (ap not ok ∙ c .before .if2 .taken)))
+    ∙ ap (answered (a .board)) (undo-unfit (boardIn (a .board)) (a .journal .now) _ e (c .before .before .before .before .before .before .before .before .before .before .if1 .left) (ap not ok ∙ c .before .if2 .taken)))
 
 after-take-back-requires : tie.Need-after-take-back-requires
 after-take-back-requires c κs = search needs
@@ -78,13 +82,14 @@ flag-of-requires c κs = search needs
 returns-3 : tie.Need-returns-3
 unfolding undoBefore lentBy isBoard boardIn madeIn hasFlags stateOf
 returns-3 c =
-    let a = c .before .before .before .before .before .before .before .before .before .before .before .before .before .before .before .before .before .before .before .before .before .before .before .before .before .before .before .before .before .before .before .before .before .args in
-    let e = rw (c .before .before .before .before .before .before .before .before .before .before .before .before .before .before .before .before .before .before .before .before .before .before .before .before .made-in .ensures, c .before .before .before .before .before .before .before .before .before .before .before .before .before .before .before .before .before .before .before .before .before .before .before .before .before .before .before .flags-in .ensures) at (c .before .before .before .before .before .before .before .before .before .before .before .before .before .before .before .before .before .before .number-of-undo .ensures .0) in
-    let ok : canTakeBack (stateOf (boardIn (a .board))) (slotAt (a .journal .now) (a .board .standing)) ≡ _ = sym ((rw (c .before .before .before .before .before .before .before .before .before .before .before .before .before .before .before .struck-cells .ensures, c .before .before .before .before .before .before .before .before .before .before .before .before .before .before .before .before .slot-at .ensures, c .before .before .before .before .before .before .before .before .before .before .before .before .before .before .before .before .before .before .before .before .before .before .before .before .before .before .before .flags-in .ensures) at (c .before .before .before .before .before .before .before .before .before .before .can-take-back .ensures)) ∙ take-back-parts (stateOf (boardIn (a .board))) (slotAt (a .journal .now) (a .board .standing))) in
-    let n : length (a .board .given) ≡ 81 = search (needs, c .before .before .before .before .before .before .before .before .before .before .before .before .before .before .before .before .before .before .before .before .before .before .before .before .before .before .before .before .before .before .before .before .before .good) in
-    let none = undo-fit (boardIn (a .board)) (a .journal .now) _ e (c .before .before .before .before .before .before .before .before .before .before .before .before .before .before .before .before .before .if1 .left) (ap not ok ∙ c .before .before .before .before .before .before .before .before .before .if2 .left) in
+    let a = c .before .before .before .before .before .before .before .before .before .before .before .before .before .before .before .before .before .before .before .before .before .before .before .before .before .before .before .before .before .before .before .before .before .before .args in
+    let e = rw (c .before .before .before .before .before .before .before .before .before .before .before .before .before .before .before .before .before .before .before .before .before .before .before .before .before .made-in .ensures, c .before .before .before .before .before .before .before .before .before .before .before .before .before .before .before .before .before .before .before .before .before .before .before .before .before .before .before .before .flags-in .ensures) at (c .before .before .before .before .before .before .before .before .before .before .before .before .before .before .before .before .before .before .before .number-of-undo .ensures .0) in
+    let ok : canTakeBack (stateOf (boardIn (a .board))) (slotAt (a .journal .now) (a .board .standing)) ≡ (c .before .before .before .before .before .before .before .before .before .before .is-sound .result && c .before .before .before .before .before .before .before .before .before .before .before .before .as-left .result) =
+    rw (c .before .before .before .before .before .before .before .before .before .before .is-sound .ensures, c .before .before .before .before .before .before .before .before .before .before .before .before .as-left .ensures, c .before .before .before .before .before .before .before .before .before .before .before .before .before .before .before .before .struck-cells .ensures, c .before .before .before .before .before .before .before .before .before .before .before .before .before .before .before .before .before .slot-at .ensures, c .before .before .before .before .before .before .before .before .before .before .before .before .before .before .before .before .before .before .before .before .before .before .before .before .before .before .before .before .flags-in .ensures) (sym (take-back-parts (stateOf (boardIn (a .board))) (slotAt (a .journal .now) (a .board .standing)))) in
+    let n : length (a .board .given) ≡ 81 = search (needs, c .before .before .before .before .before .before .before .before .before .before .before .before .before .before .before .before .before .before .before .before .before .before .before .before .before .before .before .before .before .before .before .before .before .before .good) in
+    let none = undo-fit (boardIn (a .board)) (a .journal .now) _ e (c .before .before .before .before .before .before .before .before .before .before .before .before .before .before .before .before .before .before .if1 .left) (ap not ok ∙ c .before .before .before .before .before .before .before .before .before .if2 .left) in
     let kept = flags-kept (a .board .given) n (counted-flags (a .board) (undo-counted (a .board) (a .journal .now) none)) in
-    rw (c .before .before .before .before .before .before .before .before .before .before .before .before .before .before .before .before .before .before .before .before .before .before .before .before .before .before .before .before .before .before .before .accepted .ensures, c .before .before .before .flag-of .ensures, c .before .before .before .before .give-slot-back .ensures, c .before .before .before .before .before .before .put-back .ensures .0, c .before .before .before .before .before .before .put-back .ensures .1, c .before .before .before .before .before .before .before .before .after-take-back .ensures, c .before .before .before .before .before .before .before .before .before .before .before .before .before .before .before .struck-cells .ensures, c .before .before .before .before .before .before .before .before .before .before .before .before .before .before .before .before .slot-at .ensures, c .before .before .before .before .before .before .before .before .before .before .before .before .before .before .before .before .before .before .before .before .before .before .before .before .made-in .ensures)
+    rw (c .before .before .before .before .before .before .before .before .before .before .before .before .before .before .before .before .before .before .before .before .before .before .before .before .before .before .before .before .before .before .before .before .accepted .ensures, c .before .before .before .flag-of .ensures, c .before .before .before .before .give-slot-back .ensures, c .before .before .before .before .before .before .put-back .ensures .0, c .before .before .before .before .before .before .put-back .ensures .1, c .before .before .before .before .before .before .before .before .after-take-back .ensures, c .before .before .before .before .before .before .before .before .before .before .before .before .before .before .before .before .struck-cells .ensures, c .before .before .before .before .before .before .before .before .before .before .before .before .before .before .before .before .before .slot-at .ensures, c .before .before .before .before .before .before .before .before .before .before .before .before .before .before .before .before .before .before .before .before .before .before .before .before .before .made-in .ensures)
     (undo-left (a .board) (slotAt (a .journal .now) (a .board .standing)) kept ∙ ap (answered (a .board)) (undo-made (boardIn (a .board)) (a .journal .now) none))
 
 pub undo-spec : {M : Type 1} → statement M
@@ -99,7 +104,8 @@ undo-spec =
     returns
     slot-at-requires
     struck-cells-requires
-    can-take-back-requires
+    as-left-requires
+    is-sound-requires
     refusal-requires-2
     returns-2
     after-take-back-requires
