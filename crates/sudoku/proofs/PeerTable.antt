@@ -1,6 +1,6 @@
 -- The table of peers: twenty entries for each cell, cell 1 first. Its rule is one test, which antt computes over the whole table, and `table-peers` makes of it what stands for each cell.
 -- Assumes nothing.
-use Prim.Native.Nat.{ℕ, _+_, _-_, _*_, _<_}
+use Prim.Native.Nat.{ℕ, zero, suc, _+_, _-_, _*_, _<_}
 use mathlib.Core.Path.{_≡_, refl, sym, ap, _∙_}
 use mathlib.Core.Bool.{Bool, true, false}
 use mathlib.Core.List.{List, [], _∷_, _++_}
@@ -13,7 +13,7 @@ use lib.Seq.{take-suc, take-suc-set, getD-drop}
 use Rattle.sudoku.specs.Tests.{both, every, among}
 use Rattle.sudoku.specs.Grid.{isCell, arePeers, peersOf}
 use Rattle.sudoku.proofs.Walks.{both-left, both-right, every-at, not-both-ways}
-use Rattle.sudoku.proofs.Grid.{cell-from, cell-to, peers-on}
+use Rattle.sudoku.proofs.Grid.{cell-from, cell-to, cell-zero, cell-past, peers-on}
 
 -- whether two lists are equal
 unfoldable pub same : List ℕ → List ℕ → Bool
@@ -44,6 +44,19 @@ unfolding rule
 table-peers table cell p h =
     same-eq (entries table cell) (among (arePeers cell) 81 1) (every-at (rule table) 81 1 cell p (cell-from cell h) (omega (arith, cell-to cell h)))
     ∙ sym (peers-on cell h)
+
+-- x is none of the numbers 1 to n: what the last arm of a match on them knows
+abbrev pub NoneTo : ℕ → ℕ → Type 0
+NoneTo zero x = Unit
+NoneTo (suc n) x = NoneTo n x × (x ≡ suc n → ⊥)
+
+beyond : (n k : ℕ) → NoneTo n (suc k) → n < suc k
+beyond zero k p = omega arith
+beyond (suc n) k p = omega (arith, beyond n k (p .0), p .1)
+
+pub not-a-cell : (cell : ℕ) → NoneTo 81 cell → isCell cell ≡ false
+not-a-cell zero p = cell-zero
+not-a-cell (suc k) p = cell-past (suc k) (beyond 81 k p)
 
 -- a turn of the loop that copies entries
 pub copied : (table peers : List ℕ) (start i : ℕ) → start + i < length table → i < length peers → take i peers ≡ take i (drop start table)

@@ -132,16 +132,94 @@ fn twenty(table: &[u8; 1620], start: usize) -> [u8; 20]
 }
 
 // The twenty peers of a cell, ascending; twenty zeros where there is no such cell.
-// The table is laid out at every use, so it is used once here, and whoever wants peers goes through this function.
+// The place in the table is a constant in each arm: the compiler then keeps twenty tables of 81 bytes in read-only memory.
+// With a place that is worked out it would lay all 1,620 bytes out on the stack at every call.
 pub fn peers(cell: usize) -> [u8; 20]
     ensures { λ r. ⌜ r ≡ peersOf cell ⌝ }
 {
-    if cell < 1 {
-        return [0; 20];
-    }
-    if cell > CELLS {
-        return [0; 20];
-    }
     let all = table::PEERS;
-    twenty(&all, PEERS_PER_CELL * (cell - 1))
+    match cell {
+        1 => twenty(&all, 0),
+        2 => twenty(&all, 20),
+        3 => twenty(&all, 40),
+        4 => twenty(&all, 60),
+        5 => twenty(&all, 80),
+        6 => twenty(&all, 100),
+        7 => twenty(&all, 120),
+        8 => twenty(&all, 140),
+        9 => twenty(&all, 160),
+        10 => twenty(&all, 180),
+        11 => twenty(&all, 200),
+        12 => twenty(&all, 220),
+        13 => twenty(&all, 240),
+        14 => twenty(&all, 260),
+        15 => twenty(&all, 280),
+        16 => twenty(&all, 300),
+        17 => twenty(&all, 320),
+        18 => twenty(&all, 340),
+        19 => twenty(&all, 360),
+        20 => twenty(&all, 380),
+        21 => twenty(&all, 400),
+        22 => twenty(&all, 420),
+        23 => twenty(&all, 440),
+        24 => twenty(&all, 460),
+        25 => twenty(&all, 480),
+        26 => twenty(&all, 500),
+        27 => twenty(&all, 520),
+        28 => twenty(&all, 540),
+        29 => twenty(&all, 560),
+        30 => twenty(&all, 580),
+        31 => twenty(&all, 600),
+        32 => twenty(&all, 620),
+        33 => twenty(&all, 640),
+        34 => twenty(&all, 660),
+        35 => twenty(&all, 680),
+        36 => twenty(&all, 700),
+        37 => twenty(&all, 720),
+        38 => twenty(&all, 740),
+        39 => twenty(&all, 760),
+        40 => twenty(&all, 780),
+        41 => twenty(&all, 800),
+        42 => twenty(&all, 820),
+        43 => twenty(&all, 840),
+        44 => twenty(&all, 860),
+        45 => twenty(&all, 880),
+        46 => twenty(&all, 900),
+        47 => twenty(&all, 920),
+        48 => twenty(&all, 940),
+        49 => twenty(&all, 960),
+        50 => twenty(&all, 980),
+        51 => twenty(&all, 1000),
+        52 => twenty(&all, 1020),
+        53 => twenty(&all, 1040),
+        54 => twenty(&all, 1060),
+        55 => twenty(&all, 1080),
+        56 => twenty(&all, 1100),
+        57 => twenty(&all, 1120),
+        58 => twenty(&all, 1140),
+        59 => twenty(&all, 1160),
+        60 => twenty(&all, 1180),
+        61 => twenty(&all, 1200),
+        62 => twenty(&all, 1220),
+        63 => twenty(&all, 1240),
+        64 => twenty(&all, 1260),
+        65 => twenty(&all, 1280),
+        66 => twenty(&all, 1300),
+        67 => twenty(&all, 1320),
+        68 => twenty(&all, 1340),
+        69 => twenty(&all, 1360),
+        70 => twenty(&all, 1380),
+        71 => twenty(&all, 1400),
+        72 => twenty(&all, 1420),
+        73 => twenty(&all, 1440),
+        74 => twenty(&all, 1460),
+        75 => twenty(&all, 1480),
+        76 => twenty(&all, 1500),
+        77 => twenty(&all, 1520),
+        78 => twenty(&all, 1540),
+        79 => twenty(&all, 1560),
+        80 => twenty(&all, 1580),
+        81 => twenty(&all, 1600),
+        _ => [0; 20],
+    }
 }
