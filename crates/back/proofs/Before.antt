@@ -8,11 +8,12 @@ use native.Mathlib.Omega.{arith}
 use borrow.Author.Tests.{leb-false}
 use lib.ListN.{length}
 use Rattle.sudoku.specs.Tests.{Test, _⇒_, first, both}
+use Rattle.sudoku.specs.Grid.{cellOf}
 use Rattle.sudoku.proofs.Walks.{refused, passed}
 use Rattle.puzzle.specs.Refusals.{refusal}
 use Rattle.journal.specs.declared.Slot.{Slot}
-use Rattle.journal.specs.State.{State}
-use Rattle.journal.specs.Slots.{moveOf, slotAt, soundFor}
+use Rattle.journal.specs.State.{State, standsAsLeft, standsAsFound}
+use Rattle.journal.specs.Slots.{moveOf, digitChange, slotAt, soundFor}
 use Rattle.journal.proofs.SlotLaws.{sound-for}
 use Rattle.board.specs.declared.Board.{Board}
 use Rattle.board.specs.declared.Answer.{Answer}
@@ -23,24 +24,28 @@ use Rattle.play.specs.Parts.{parts}
 use Rattle.play.specs.Play.{lentBy, lentTests, slotRefusal, canTakeBack, canRetake, undoTests, undoOf, redoTests, redoOf}
 use Rattle.play.proofs.Joined.{Numbered, join-refused, join-passed}
 use Rattle.play.proofs.Accepted.{slot-plain, slot-14, undo-refused, redo-refused}
-use Rattle.back.specs.Halves.{struckCells, leftBy, foundBy, undoBefore, redoBefore}
+use Rattle.back.specs.Halves.{struckCells, digitLeft, digitFound, marksLeft, marksFound, undoBefore, redoBefore}
 use Rattle.back.proofs.Parts.{left-parts, found-parts}
 
--- ---- the slot, asked of a state's parts, both questions in any case
+-- ---- the slot, asked of a state's parts, all three questions in any case
 
-and-both : (a b : Bool) → (a && b) ≡ both a b
+-- the second and the third question count where the slot is sound
+all-three : (a b c d : Bool) → (a ≡ true → both b c ≡ d) → ((a && b) && c) ≡ both a d
 unfolding both
-and-both true b = refl
-and-both false b = refl
+all-three true true c d h = h refl
+all-three true false c d h = h refl
+all-three false b c d h = refl
 
 module _ (s : State) (slot : Slot) where
-  pub take-back-parts : (soundFor (s .given) slot && leftBy (parts [] (s .digits) (s .notes) false) (moveOf slot) (slot .struck) (struckCells slot)) ≡ canTakeBack s slot
+  pub take-back-parts : ((soundFor (s .given) slot && digitLeft (parts [] (s .digits) [] false) (cellOf (slot .row) (slot .column)) (digitChange slot)) && marksLeft (s .notes) (moveOf slot) (slot .struck) (struckCells slot))
+      ≡ canTakeBack s slot
   unfolding canTakeBack
-  take-back-parts = and-both _ _ ∙ (λ i. both (sym (sound-for s slot) i) (left-parts s slot i))
+  take-back-parts = all-three _ _ _ _ (left-parts s slot) ∙ ap (λ (t : Bool). both t (standsAsLeft s (moveOf slot) (slot .struck))) (sym (sound-for s slot))
 
-  pub retake-parts : (soundFor (s .given) slot && foundBy (parts [] (s .digits) (s .notes) false) (moveOf slot) (slot .before) (slot .struck) (struckCells slot)) ≡ canRetake s slot
+  pub retake-parts : ((soundFor (s .given) slot && digitFound (parts [] (s .digits) [] false) (cellOf (slot .row) (slot .column)) (digitChange slot)) && marksFound (s .notes) (moveOf slot) (slot .struck) (struckCells slot))
+      ≡ canRetake s slot
   unfolding canRetake
-  retake-parts = and-both _ _ ∙ (λ i. both (sym (sound-for s slot) i) (found-parts s slot i))
+  retake-parts = all-three _ _ _ _ (found-parts s slot) ∙ ap (λ (t : Bool). both t (standsAsFound s (moveOf slot) (slot .before) (slot .struck))) (sym (sound-for s slot))
 
 -- ---- a call whose last test is 14: the tests before it gave the number n, and `unfit` says that the slot does not fit
 

@@ -9,8 +9,9 @@ use lib.Dec.{eqb}
 use lib.ListN.{replicate}
 use borrow.Author.Tests.{eqb-true, lt-leb}
 use Rattle.sudoku.specs.Tests.{pick, both, either}
-use Rattle.sudoku.specs.Grid.{cellOf, peersOf}
-use Rattle.sudoku.proofs.Walks.{by-test, pick-false}
+use Rattle.sudoku.specs.Grid.{inRange, isCell, cellOf, at, peersOf}
+use Rattle.sudoku.proofs.Walks.{by-test, pick-false, both-left, both-second}
+use Rattle.sudoku.proofs.Grid.{cell-of-is-cell}
 use Rattle.note.specs.Note.{contains}
 use Rattle.journal.specs.declared.DigitChange.{DigitChange}
 use Rattle.journal.specs.declared.DigitChange.the-variants.{Put, None}
@@ -18,9 +19,12 @@ use Rattle.journal.specs.declared.Move.{Move}
 use Rattle.journal.specs.declared.Move.the-variants.{Place, Erase, WriteMark, StrikeMark}
 use Rattle.journal.specs.declared.Slot.{Slot}
 use Rattle.journal.specs.State.{State, withNotes, putDigit, lowest, writeMasked, strikeMasked, everyMasked, perform, performAgain, takeBack, digitAt, noteAt, standsAsLeft, standsAsFound}
-use Rattle.journal.specs.Slots.{moveOf, digitChange}
+use Rattle.journal.specs.InTurn.{inTurn, lackInTurn, haveInTurn}
+use Rattle.journal.specs.Slots.{moveOf, digitChange, soundPlace, isSound, isFree, soundFor}
+use Rattle.journal.proofs.SlotLaws.{sound-place}
+use Rattle.journal.proofs.InTurn.{lack-peers, have-peers}
 use Rattle.play.specs.Parts.{parts}
-use Rattle.back.specs.Halves.{digitBack, digitAgain, slotToRedo, struckCells, marksBack, marksAgain, leftBy, foundBy}
+use Rattle.back.specs.Halves.{digitBack, digitAgain, slotToRedo, struckCells, marksBack, marksAgain, digitLeft, digitFound, marksLeft, marksFound}
 
 -- ---- the next move to redo
 
@@ -40,10 +44,18 @@ unfolding strikeMasked lowest pick
 strike-none notes d [] = refl
 strike-none notes d (cell ∷ cells) = strike-none notes d cells
 
-pub every-none : (f : ℕ → Bool) (cells : List ℕ) → everyMasked f 0 cells ≡ true
-unfolding everyMasked lowest both either
-every-none f [] = refl
-every-none f (cell ∷ cells) = every-none f cells
+in-turn-none : (change : List ℕ → ℕ → List ℕ) (test : ℕ → Bool) (notes cells : List ℕ) → inTurn change test notes 0 cells ≡ true
+unfolding inTurn lowest both either pick
+in-turn-none change test notes [] = refl
+in-turn-none change test notes (cell ∷ cells) = in-turn-none change test notes cells
+
+pub lack-none : (notes : List ℕ) (d : ℕ) (cells : List ℕ) → lackInTurn notes d 0 cells ≡ true
+unfolding lackInTurn
+lack-none notes d cells = in-turn-none _ _ notes cells
+
+pub have-none : (notes : List ℕ) (d : ℕ) (cells : List ℕ) → haveInTurn notes d 0 cells ≡ true
+unfolding haveInTurn
+have-none notes d cells = in-turn-none _ _ notes cells
 
 -- a walk by a slot's mask over the cells it speaks of is the walk over the peers
 module _ (slot : Slot) where
@@ -63,8 +75,27 @@ module _ (slot : Slot) where
   strike-struck : (notes : List ℕ) (d : ℕ) → strikeMasked notes d (slot .struck) (struckCells slot) ≡ strikeMasked notes d (slot .struck) (peersOf (cellOf (slot .row) (slot .column)))
   strike-struck notes d = by-struck (λ mask cells. strikeMasked notes d mask cells) notes (strike-none notes d)
 
-  every-struck : (f : ℕ → Bool) → everyMasked f (slot .struck) (struckCells slot) ≡ everyMasked f (slot .struck) (peersOf (cellOf (slot .row) (slot .column)))
-  every-struck f = by-struck (λ mask cells. everyMasked f mask cells) true (every-none f)
+  -- and so are the two that ask in turn, where the slot is sound
+  module _ (given : List Bool) (h : soundFor given slot ≡ true) where
+    sound-cell : isCell (cellOf (slot .row) (slot .column)) ≡ true
+    unfolding soundFor isSound
+    sound-cell = cell-of-is-cell _ _ (both-left _ _ (both-left _ _ h))
+
+    sound-digit : eqb (slot .kind) 2 ≡ true → inRange (slot .digit) ≡ true
+    unfolding soundFor isSound isFree soundPlace
+    sound-digit k = both-left _ _ (sym (sound-place given slot (both-left _ _ h) (eqb-true _ _ k)) ∙ h)
+
+    lack-struck : (notes : List ℕ) (d : ℕ) → lackInTurn notes d (slot .struck) (struckCells slot)
+        ≡ everyMasked (λ peer. not (contains (at notes peer) d)) (slot .struck) (peersOf (cellOf (slot .row) (slot .column)))
+    lack-struck notes d =
+        by-struck (λ mask cells. lackInTurn notes d mask cells) true (lack-none notes d)
+        ∙ lack-peers notes d (slot .struck) (cellOf (slot .row) (slot .column)) sound-cell
+
+    have-struck : (notes : List ℕ) (d : ℕ) → inRange d ≡ true → haveInTurn notes d (slot .struck) (struckCells slot)
+        ≡ everyMasked (λ peer. contains (at notes peer) d) (slot .struck) (peersOf (cellOf (slot .row) (slot .column)))
+    have-struck notes d r =
+        by-struck (λ mask cells. haveInTurn notes d mask cells) true (have-none notes d)
+        ∙ have-peers notes d (slot .struck) (cellOf (slot .row) (slot .column)) sound-cell r
 
 -- ---- the digit alone, and the marks alone
 
@@ -108,21 +139,25 @@ module _ (s : State) (row column digit before mask : ℕ) (cells : List ℕ) whe
   again-by h false false true = refl
   again-by h false false false = refl
 
-  left-by : everyMasked (λ peer. not (contains (noteAt s peer) digit)) mask cells ≡ everyMasked (λ peer. not (contains (noteAt s peer) digit)) mask (peersOf (cellOf row column)) → (p e w : Bool)
-      → leftBy (parts [] (s .digits) (s .notes) false) (pick p (Place row column digit) (pick e (Erase row column) (pick w (WriteMark row column digit) (StrikeMark row column digit)))) mask cells ≡ standsAsLeft s (pick p (Place row column digit) (pick e (Erase row column) (pick w (WriteMark row column digit) (StrikeMark row column digit)))) mask
-  unfolding pick leftBy standsAsLeft digitAt noteAt
-  left-by h true e w = ap (both (eqb (digitAt s (cellOf row column)) digit)) h
-  left-by h false true w = refl
-  left-by h false false true = refl
-  left-by h false false false = refl
+  left-by : (p e w : Bool) → (p ≡ true → lackInTurn (s .notes) digit mask cells ≡ everyMasked (λ peer. not (contains (noteAt s peer) digit)) mask (peersOf (cellOf row column)))
+      → both (digitLeft (parts [] (s .digits) [] false) (cellOf row column) (pick p (Put before digit) (pick e (Put before 0) None)))
+      (marksLeft (s .notes) (pick p (Place row column digit) (pick e (Erase row column) (pick w (WriteMark row column digit) (StrikeMark row column digit)))) mask cells)
+      ≡ standsAsLeft s (pick p (Place row column digit) (pick e (Erase row column) (pick w (WriteMark row column digit) (StrikeMark row column digit)))) mask
+  unfolding pick digitLeft marksLeft standsAsLeft digitAt noteAt both
+  left-by true e w h = ap (both (eqb (digitAt s (cellOf row column)) digit)) (h refl)
+  left-by false true w h = both-second (eqb (digitAt s (cellOf row column)) 0) true refl
+  left-by false false true h = refl
+  left-by false false false h = refl
 
-  found-by : everyMasked (λ peer. contains (noteAt s peer) digit) mask cells ≡ everyMasked (λ peer. contains (noteAt s peer) digit) mask (peersOf (cellOf row column)) → (p e w : Bool)
-      → foundBy (parts [] (s .digits) (s .notes) false) (pick p (Place row column digit) (pick e (Erase row column) (pick w (WriteMark row column digit) (StrikeMark row column digit)))) before mask cells ≡ standsAsFound s (pick p (Place row column digit) (pick e (Erase row column) (pick w (WriteMark row column digit) (StrikeMark row column digit)))) before mask
-  unfolding pick foundBy standsAsFound digitAt noteAt
-  found-by h true e w = ap (both (eqb (digitAt s (cellOf row column)) before)) h
-  found-by h false true w = refl
-  found-by h false false true = refl
-  found-by h false false false = refl
+  found-by : (p e w : Bool) → (p ≡ true → haveInTurn (s .notes) digit mask cells ≡ everyMasked (λ peer. contains (noteAt s peer) digit) mask (peersOf (cellOf row column)))
+      → both (digitFound (parts [] (s .digits) [] false) (cellOf row column) (pick p (Put before digit) (pick e (Put before 0) None)))
+      (marksFound (s .notes) (pick p (Place row column digit) (pick e (Erase row column) (pick w (WriteMark row column digit) (StrikeMark row column digit)))) mask cells)
+      ≡ standsAsFound s (pick p (Place row column digit) (pick e (Erase row column) (pick w (WriteMark row column digit) (StrikeMark row column digit)))) before mask
+  unfolding pick digitFound marksFound standsAsFound digitAt noteAt both
+  found-by true e w h = ap (both (eqb (digitAt s (cellOf row column)) before)) (h refl)
+  found-by false true w h = both-second (eqb (digitAt s (cellOf row column)) before) true refl
+  found-by false false true h = refl
+  found-by false false false h = refl
 
 module _ (s : State) (slot : Slot) where
   pub back-parts : parts (s .given)
@@ -154,15 +189,18 @@ module _ (s : State) (slot : Slot) where
       ∙ sym (marks-again-parts (parts (s .given) (d .digits) (s .notes) (d .solved)) (moveOf slot) (slot .struck) (struckCells slot))
       ∙ again-parts
 
-  -- what stands, asked of the digits and the notes alone
-  pub left-parts : leftBy (parts [] (s .digits) (s .notes) false) (moveOf slot) (slot .struck) (struckCells slot) ≡ standsAsLeft s (moveOf slot) (slot .struck)
-  unfolding moveOf
-  left-parts =
-      left-by s (slot .row) (slot .column) (slot .digit) (slot .before) (slot .struck) (struckCells slot) (every-struck slot (λ peer. not (contains (noteAt s peer) (slot .digit))))
-      (eqb (slot .kind) 2) (eqb (slot .kind) 3) (eqb (slot .kind) 4)
+  -- what stands, asked of the digits and of the notes, where the slot is sound
+  module _ (h : soundFor (s .given) slot ≡ true) where
+    pub left-parts : both (digitLeft (parts [] (s .digits) [] false) (cellOf (slot .row) (slot .column)) (digitChange slot)) (marksLeft (s .notes) (moveOf slot) (slot .struck) (struckCells slot))
+        ≡ standsAsLeft s (moveOf slot) (slot .struck)
+    unfolding digitChange moveOf noteAt
+    left-parts =
+        left-by s (slot .row) (slot .column) (slot .digit) (slot .before) (slot .struck) (struckCells slot)
+        (eqb (slot .kind) 2) (eqb (slot .kind) 3) (eqb (slot .kind) 4) (λ k. lack-struck slot (s .given) h (s .notes) (slot .digit))
 
-  pub found-parts : foundBy (parts [] (s .digits) (s .notes) false) (moveOf slot) (slot .before) (slot .struck) (struckCells slot) ≡ standsAsFound s (moveOf slot) (slot .before) (slot .struck)
-  unfolding moveOf
-  found-parts =
-      found-by s (slot .row) (slot .column) (slot .digit) (slot .before) (slot .struck) (struckCells slot) (every-struck slot (λ peer. contains (noteAt s peer) (slot .digit)))
-      (eqb (slot .kind) 2) (eqb (slot .kind) 3) (eqb (slot .kind) 4)
+    pub found-parts : both (digitFound (parts [] (s .digits) [] false) (cellOf (slot .row) (slot .column)) (digitChange slot)) (marksFound (s .notes) (moveOf slot) (slot .struck) (struckCells slot))
+        ≡ standsAsFound s (moveOf slot) (slot .before) (slot .struck)
+    unfolding digitChange moveOf noteAt
+    found-parts =
+        found-by s (slot .row) (slot .column) (slot .digit) (slot .before) (slot .struck) (struckCells slot)
+        (eqb (slot .kind) 2) (eqb (slot .kind) 3) (eqb (slot .kind) 4) (λ k. have-struck slot (s .given) h (s .notes) (slot .digit) (sound-digit slot (s .given) h k))

@@ -1,20 +1,21 @@
 -- A recorded move taken back and performed again in two steps, as the code goes: first the digit of its cell, then the marks.
--- The peers that a slot's mask speaks of are handed on: proofs/Halves and proofs/Parts show that the two steps with these are the whole of specs/State.
+-- The peers that a slot's mask speaks of are handed on: proofs/Parts shows that the two steps with these are the whole of specs/State.
 -- Assumes nothing.
 use Prim.Native.Nat.{ℕ, _+_}
-use mathlib.Core.Bool.{Bool, not}
+use mathlib.Core.Bool.{Bool, true, not}
 use mathlib.Core.List.{List, [], _∷_}
 use lib.Dec.{eqb, leb}
 use lib.ListN.{replicate}
-use Rattle.sudoku.specs.Tests.{Test, _⇒_, pick, both}
-use Rattle.sudoku.specs.Grid.{cellOf, peersOf}
+use Rattle.sudoku.specs.Tests.{Test, _⇒_, pick}
+use Rattle.sudoku.specs.Grid.{cellOf, at, peersOf}
 use Rattle.note.specs.Note.{contains}
 use Rattle.journal.specs.declared.DigitChange.{DigitChange}
 use Rattle.journal.specs.declared.DigitChange.the-variants.{Put, None}
 use Rattle.journal.specs.declared.Move.{Move}
 use Rattle.journal.specs.declared.Move.the-variants.{Place, Erase, WriteMark, StrikeMark}
 use Rattle.journal.specs.declared.Slot.{Slot}
-use Rattle.journal.specs.State.{State, withNotes, putDigit, digitAt, noteAt, writeAt, strikeAt, writeMasked, strikeMasked, everyMasked}
+use Rattle.journal.specs.State.{State, withNotes, putDigit, digitAt, writeAt, strikeAt, writeMasked, strikeMasked}
+use Rattle.journal.specs.InTurn.{lackInTurn, haveInTurn}
 use Rattle.board.specs.declared.Board.{Board}
 use Rattle.play.specs.Play.{lentBy}
 
@@ -50,21 +51,29 @@ marksAgain s (Erase row column) mask cells = s
 marksAgain s (WriteMark row column digit) mask cells = withNotes s (writeAt (s .notes) (cellOf row column) digit)
 marksAgain s (StrikeMark row column digit) mask cells = withNotes s (strikeAt (s .notes) (cellOf row column) digit)
 
--- the digit and the marks that a recorded move changed stand as the move left them
-unfoldable pub leftBy : State → Move → ℕ → List ℕ → Bool
-leftBy s (Place row column digit) mask cells =
-    both (eqb (digitAt s (cellOf row column)) digit) (everyMasked (λ peer. not (contains (noteAt s peer) digit)) mask cells)
-leftBy s (Erase row column) mask cells = eqb (digitAt s (cellOf row column)) 0
-leftBy s (WriteMark row column digit) mask cells = contains (noteAt s (cellOf row column)) digit
-leftBy s (StrikeMark row column digit) mask cells = not (contains (noteAt s (cellOf row column)) digit)
+-- the digit that a recorded move changed stands as the move left it; a move that changes no digit left every digit
+unfoldable pub digitLeft : State → ℕ → DigitChange → Bool
+digitLeft s cell (Put before after) = eqb (digitAt s cell) after
+digitLeft s cell None = true
 
--- they stand as the move found them
-unfoldable pub foundBy : State → Move → ℕ → ℕ → List ℕ → Bool
-foundBy s (Place row column digit) before mask cells =
-    both (eqb (digitAt s (cellOf row column)) before) (everyMasked (λ peer. contains (noteAt s peer) digit) mask cells)
-foundBy s (Erase row column) before mask cells = eqb (digitAt s (cellOf row column)) before
-foundBy s (WriteMark row column digit) before mask cells = not (contains (noteAt s (cellOf row column)) digit)
-foundBy s (StrikeMark row column digit) before mask cells = contains (noteAt s (cellOf row column)) digit
+-- it stands as the move found it
+unfoldable pub digitFound : State → ℕ → DigitChange → Bool
+digitFound s cell (Put before after) = eqb (digitAt s cell) before
+digitFound s cell None = true
+
+-- the marks that a recorded move changed stand as the move left them, each asked when it is given back
+unfoldable pub marksLeft : List ℕ → Move → ℕ → List ℕ → Bool
+marksLeft notes (Place row column digit) mask cells = lackInTurn notes digit mask cells
+marksLeft notes (Erase row column) mask cells = true
+marksLeft notes (WriteMark row column digit) mask cells = contains (at notes (cellOf row column)) digit
+marksLeft notes (StrikeMark row column digit) mask cells = not (contains (at notes (cellOf row column)) digit)
+
+-- they stand as the move found them, each asked when it is changed again
+unfoldable pub marksFound : List ℕ → Move → ℕ → List ℕ → Bool
+marksFound notes (Place row column digit) mask cells = haveInTurn notes digit mask cells
+marksFound notes (Erase row column) mask cells = true
+marksFound notes (WriteMark row column digit) mask cells = not (contains (at notes (cellOf row column)) digit)
+marksFound notes (StrikeMark row column digit) mask cells = contains (at notes (cellOf row column)) digit
 
 -- the tests of undo and of redo that need no slot; 14 comes after them
 unfoldable pub undoBefore : Board → ℕ → List Test

@@ -1,17 +1,41 @@
-// The digit of a recorded move put back, and put again, in place.
+// The digit of a recorded move asked, put back, and put again, in place.
 use board::Board;
 use journal::DigitChange;
 use journal::Slot;
 use journal::slots::digit_change;
 use play::moves::put_in;
+use puzzle::digit_at;
 use sudoku::cell_of;
 ghost use mathlib.Core.Path.{_≡_};
+ghost use mathlib.Core.Bool.{false};
 ghost use mathlib.Core.List.{[]};
 ghost use Rattle.sudoku.specs.Grid.{cellOf};
 ghost use Rattle.journal.specs.Slots.{digitChange};
 ghost use Rattle.board.specs.Board.{stateOf, countsOf, moved};
 ghost use Rattle.play.specs.Parts.{parts};
-ghost use Rattle.back.specs.Halves.{digitBack, digitAgain};
+ghost use Rattle.back.specs.Halves.{digitBack, digitAgain, digitLeft, digitFound};
+
+// Whether the digit that a slot's move changed stands as the move left it. A move that changes no digit left every digit.
+pub fn digit_left(digits: &[u8; 81], slot: Slot) -> bool
+    ensures { λ r. ⌜ r ≡ digitLeft (parts [] (now (digits .entry)) [] false) (cellOf (slot .row) (slot .column)) (digitChange slot) ⌝ }
+{
+    let change = digit_change(slot);
+    let DigitChange::Put { before: _, after } = change else {
+        return true;
+    };
+    digit_at(digits, cell_of(slot.row, slot.column)) == after
+}
+
+// Whether the digit that a slot's move changes stands as the move found it.
+pub fn digit_found(digits: &[u8; 81], slot: Slot) -> bool
+    ensures { λ r. ⌜ r ≡ digitFound (parts [] (now (digits .entry)) [] false) (cellOf (slot .row) (slot .column)) (digitChange slot) ⌝ }
+{
+    let change = digit_change(slot);
+    let DigitChange::Put { before, after: _ } = change else {
+        return true;
+    };
+    digit_at(digits, cell_of(slot.row, slot.column)) == before
+}
 
 // The digit before, put back in place; the status afterwards is answered. A move that changes no digit goes on to the marks alone.
 pub fn put_back(digits: &mut [u8; 81], solved: bool, slot: Slot) -> bool

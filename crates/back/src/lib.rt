@@ -7,10 +7,10 @@ pub mod marks;
 use asking::number_of_redo;
 use asking::number_of_undo;
 use asking::slot_to_redo;
-use asking::stands_as_found;
-use asking::stands_as_left;
 use board::Answer;
 use board::Board;
+use digits::digit_found;
+use digits::digit_left;
 use digits::put_again;
 use digits::put_back;
 use journal::Counts;
@@ -52,14 +52,10 @@ pub fn undo(board: Board, journal: &[u8]) -> Answer
     }
     let slot = slot_at(journal, board.standing);
     let cells = struck_cells(slot);
-    let stands = stands_as_left(
-        &answer.board.digits,
-        &answer.board.notes,
-        move_of(slot),
-        slot.struck,
-        cells,
-    );
-    if !(is_sound(&answer.board.given, slot) & stands) {
+    let digit = digit_left(&answer.board.digits, slot);
+    let marks = give_back(&mut answer.board.notes, move_of(slot), slot.struck, &cells);
+    if !(is_sound(&answer.board.given, slot) & digit & marks) {
+        answer.board = board; // without the marks given back
         answer.refusal = refusal(14, board.standing, 0);
         return answer;
     }
@@ -68,7 +64,6 @@ pub fn undo(board: Board, journal: &[u8]) -> Answer
         standing: board.standing,
     });
     let solved = put_back(&mut answer.board.digits, board.solved, slot);
-    give_back(&mut answer.board.notes, move_of(slot), slot.struck, cells);
     answer.board.solved = solved;
     answer.board.made = counts.made;
     answer.board.standing = counts.standing;
@@ -101,15 +96,10 @@ pub fn redo(board: Board, journal: &[u8]) -> Answer
     let next = slot_to_redo(board.made, board.standing);
     let slot = slot_at(journal, next);
     let cells = struck_cells(slot);
-    let stands = stands_as_found(
-        &answer.board.digits,
-        &answer.board.notes,
-        move_of(slot),
-        slot.before,
-        slot.struck,
-        cells,
-    );
-    if !(is_sound(&answer.board.given, slot) & stands) {
+    let digit = digit_found(&answer.board.digits, slot);
+    let marks = take_again(&mut answer.board.notes, move_of(slot), slot.struck, &cells);
+    if !(is_sound(&answer.board.given, slot) & digit & marks) {
+        answer.board = board; // without the marks taken again
         answer.refusal = refusal(14, next, 0);
         return answer;
     }
@@ -118,7 +108,6 @@ pub fn redo(board: Board, journal: &[u8]) -> Answer
         standing: board.standing,
     });
     let solved = put_again(&mut answer.board.digits, board.solved, slot);
-    take_again(&mut answer.board.notes, move_of(slot), slot.struck, cells);
     answer.board.solved = solved;
     answer.board.made = counts.made;
     answer.board.standing = counts.standing;

@@ -2,4 +2,3 @@ pub mod Kept
 pub mod Played
 pub mod Back
 pub mod Checked
-pub mod DigitAlone

@@ -8,7 +8,6 @@ use lib.Dec.{leb, eqb}
 use lib.ListN.{getD}
 use Rattle.sudoku.specs.Tests.{pick, both, bit, every, listed}
 use Rattle.sudoku.specs.Grid.{at}
-use Rattle.journal.specs.declared.Slot.{Slot}
 use Rattle.journal.specs.Limits.{maxMoves}
 use Rattle.board.specs.declared.Board.{Board}
 use Rattle.board.specs.declared.Answer.{Answer}
@@ -73,7 +72,3 @@ answered h a = pick (eqb (a .refusal .number) 0) (opened a) (record { refusal = 
 -- the same of a check
 unfoldable pub judged : HostBoard → Checked → HostChecked
 judged h c = record { refusal = c .refusal; right = c .right; board = pick (eqb (c .refusal .number) 0) (hostOf (c .board)) h }
-
--- a place that struck no mark: it changed a digit alone
-unfoldable pub isPlain : Slot → Bool
-isPlain slot = both (eqb (slot .kind) 2) (eqb (slot .struck) 0)

@@ -5,19 +5,20 @@ use crate::HostChecked;
 use crate::flag_of;
 use crate::flags_in;
 use crate::made_in;
-use crate::plain::as_found;
-use crate::plain::as_left;
-use crate::plain::give_slot_back;
-use crate::plain::take_slot_again;
 use back::asking::number_of_redo;
 use back::asking::number_of_undo;
 use back::asking::slot_to_redo;
+use back::digits::digit_found;
+use back::digits::digit_left;
 use back::digits::put_again;
 use back::digits::put_back;
+use back::marks::give_back;
 use back::marks::struck_cells;
+use back::marks::take_again;
 use journal::Counts;
 use journal::Move;
 use journal::slots::is_sound;
+use journal::slots::move_of;
 use journal::slots::slot_at;
 use journal::slots::write_slot;
 use journal::steps::after_record;
@@ -105,8 +106,10 @@ pub fn undo(board: HostBoard, journal: &[u8]) -> HostAnswer
     }
     let slot = slot_at(journal, board.standing);
     let cells = struck_cells(slot);
-    let stands = as_left(&answer.board.digits, &answer.board.notes, slot, cells);
-    if !(is_sound(&given, slot) & stands) {
+    let digit = digit_left(&answer.board.digits, slot);
+    let marks = give_back(&mut answer.board.notes, move_of(slot), slot.struck, &cells);
+    if !(is_sound(&given, slot) & digit & marks) {
+        answer.board = board; // without the marks given back
         answer.refusal = refusal(14, board.standing, 0);
         return answer;
     }
@@ -115,7 +118,6 @@ pub fn undo(board: HostBoard, journal: &[u8]) -> HostAnswer
         standing: board.standing,
     });
     let status = put_back(&mut answer.board.digits, solved, slot);
-    give_slot_back(&mut answer.board.notes, slot, cells);
     answer.board.solved = flag_of(status);
     answer.board.made = counts.made;
     answer.board.standing = counts.standing;
@@ -151,8 +153,10 @@ pub fn redo(board: HostBoard, journal: &[u8]) -> HostAnswer
     let next = slot_to_redo(made, board.standing);
     let slot = slot_at(journal, next);
     let cells = struck_cells(slot);
-    let stands = as_found(&answer.board.digits, &answer.board.notes, slot, cells);
-    if !(is_sound(&given, slot) & stands) {
+    let digit = digit_found(&answer.board.digits, slot);
+    let marks = take_again(&mut answer.board.notes, move_of(slot), slot.struck, &cells);
+    if !(is_sound(&given, slot) & digit & marks) {
+        answer.board = board; // without the marks taken again
         answer.refusal = refusal(14, next, 0);
         return answer;
     }
@@ -161,7 +165,6 @@ pub fn redo(board: HostBoard, journal: &[u8]) -> HostAnswer
         standing: board.standing,
     });
     let status = put_again(&mut answer.board.digits, solved, slot);
-    take_slot_again(&mut answer.board.notes, slot, cells);
     answer.board.solved = flag_of(status);
     answer.board.made = counts.made;
     answer.board.standing = counts.standing;

@@ -1,7 +1,6 @@
 // Boards as a host passes them over the C boundary. A host's flags are bytes, since a byte of C that is neither 0 nor 1 is no bool of Rattle's; a board with such a flag is
 // taken for a value that number 2 speaks of.
 pub mod calls;
-mod plain;
 
 use board::Answer;
 use board::Board;

@@ -235,7 +235,7 @@ module _ (t : Bool) (notes : List ℕ) (cell d n m : ℕ) (from : 1 ≤ cell) (t
       (either-first (contains (at notes n) m) (both (eqb m d) (both t (eqb cell n)))
       (both-false-right (eqb m d) (both t (eqb cell n)) (both-false-left t (eqb cell n) e))))
 
-pick-either : {A : Type 0} (P : A → Type 0) (t : Bool) (a b : A) → P a → P b → P (pick t a b)
+pub pick-either : {A : Type 0} (P : A → Type 0) (t : Bool) (a b : A) → P a → P b → P (pick t a b)
 unfolding pick
 pick-either P true a b p q = p
 pick-either P false a b p q = q

@@ -1,6 +1,6 @@
-// What moves do to the kept notes: 81 of them, row by row. Notes change in place. The loops go over twenty cells that the caller hands over, so the peers of a cell are asked for once; a cell that the grid does not have changes nothing.
-use note::bit_of;
+// What moves do to the kept notes: 81 of them, row by row. Notes change in place. The loops go over cells that the caller hands over, so the peers of a cell are asked for once; a cell that the grid does not have changes nothing.
 use note::contains;
+use note::power;
 use note::with;
 use note::without;
 use puzzle::index_of;
@@ -9,10 +9,11 @@ use sudoku::wide;
 ghost use mathlib.Core.Path.{_≡_};
 ghost use mathlib.Core.Bool.{not};
 ghost use Prim.Native.Nat.{_+_, _*_, _≤_, _<_, _^_};
-ghost use Rattle.sudoku.specs.Tests.{pick, both, either, bit};
+ghost use Rattle.sudoku.specs.Tests.{pick, either, bit};
 ghost use Rattle.sudoku.specs.Grid.{at};
-ghost use Rattle.note.specs.Note.{contains as containsOf, withMark, without as withoutMark};
-ghost use Rattle.journal.specs.State.{writeAt, strikeAt, strikeAll, holders as holdersOf, lowest, strikeMasked, writeMasked, everyMasked};
+ghost use Rattle.note.specs.Note.{contains as containsOf, powerOf};
+ghost use Rattle.journal.specs.State.{writeAt, strikeAt, strikeAll, holders as holdersOf, lowest, strikeMasked, writeMasked};
+ghost use Rattle.journal.specs.InTurn.{lacks, has, lackInTurn, haveInTurn};
 
 // The kept note of a cell, and an empty note where there is no such cell.
 pub fn note_at(notes: &[u16; 81], cell: usize) -> u16
@@ -92,114 +93,71 @@ fn lowest_bit(mask: u32) -> u16
     (mask % 2) as u16
 }
 
-// The note with the mark `digit` struck where the lowest bit of the mask is set, without a test of the bit: nothing foretells it.
-fn struck_if(note: u16, digit: u8, mask: u32) -> u16
-    ensures { λ r. ⌜ r ≡ pick (lowest mask) (withoutMark note digit) note ⌝ }
+// The value of the mark `digit` where the lowest bit of the mask is set, and 0 where it is not. No test of the bit is made: nothing foretells it.
+fn mark_if(digit: u8, mask: u32) -> u16
+    ensures { λ r. ⌜ r ≡ pick (lowest mask) (powerOf digit) 0 ⌝ }
 {
-    note - lowest_bit(mask) * (note - without(note, digit))
+    lowest_bit(mask) * power(digit)
 }
 
-// The note with the mark `digit` written where the lowest bit of the mask is set, without a test of the bit.
-fn written_if(note: u16, digit: u8, mask: u32) -> u16
-    ensures { λ r. ⌜ r ≡ pick (lowest mask) (withMark note digit) note ⌝ }
-{
-    note + lowest_bit(mask) * (with(note, digit) - note)
-}
-
-// The mark `digit` struck at a cell where the lowest bit of the mask is set.
-fn strike_if(notes: &mut [u16; 81], cell: usize, digit: u8, mask: u32)
-    ensures { λ _. ⌜ now (notes .exit) ≡ pick (lowest mask) (strikeAt (now (notes .entry)) cell digit) (now (notes .entry)) ⌝ }
+// The mark `digit` written at a cell where the lowest bit of the mask is set. Answered is whether it was lacking there.
+fn write_if(notes: &mut [u16; 81], cell: usize, digit: u8, mask: u32) -> bool
+    ensures { λ r. ⌜ (r ≡ either (not (lowest mask)) (lacks digit (at (now (notes .entry)) cell))) × (now (notes .exit) ≡ pick (lowest mask) (writeAt (now (notes .entry)) cell digit) (now (notes .entry))) ⌝ }
 {
     let all: &mut [u16] = notes;
     let at = index_of(cell);
     if at >= all.len() {
-        return;
+        return true;
     }
-    all[at] = struck_if(all[at], digit, mask);
+    let mark = mark_if(digit, mask);
+    let note = all[at];
+    all[at] = note | mark;
+    note & mark == 0
 }
 
-// The mark `digit` written at a cell where the lowest bit of the mask is set.
-fn write_if(notes: &mut [u16; 81], cell: usize, digit: u8, mask: u32)
-    ensures { λ _. ⌜ now (notes .exit) ≡ pick (lowest mask) (writeAt (now (notes .entry)) cell digit) (now (notes .entry)) ⌝ }
+// The mark `digit` struck at a cell where the lowest bit of the mask is set. Answered is whether it was there; what is no digit is missed nowhere.
+fn strike_if(notes: &mut [u16; 81], cell: usize, digit: u8, mask: u32) -> bool
+    ensures { λ r. ⌜ (r ≡ either (not (lowest mask)) (has digit (at (now (notes .entry)) cell))) × (now (notes .exit) ≡ pick (lowest mask) (strikeAt (now (notes .entry)) cell digit) (now (notes .entry))) ⌝ }
 {
     let all: &mut [u16] = notes;
     let at = index_of(cell);
+    let mark = mark_if(digit, mask);
     if at >= all.len() {
-        return;
+        return mark == 0;
     }
-    all[at] = written_if(all[at], digit, mask);
+    let note = all[at];
+    all[at] = note - (note & mark);
+    note & mark == mark
 }
 
-// The mark `digit` struck from those of the cells whose bit is set in the mask.
-pub fn strike_masked_in(notes: &mut [u16; 81], digit: u8, mask: u32, cells: [u8; 20])
-    ensures { λ _. ⌜ now (notes .exit) ≡ strikeMasked (now (notes .entry)) digit mask cells ⌝ }
+// The mark `digit` written into those of the cells whose bit is set in the mask, and no others. Answered is whether each of them lacked it when its turn came.
+pub fn write_masked_in(notes: &mut [u16; 81], digit: u8, mask: u32, cells: &[u8; 20]) -> bool
+    ensures { λ r. ⌜ (r ≡ lackInTurn (now (notes .entry)) digit mask (now (cells .entry))) × (now (notes .exit) ≡ writeMasked (now (notes .entry)) digit mask (now (cells .entry))) ⌝ }
 {
-    let mut rest = mask;
-    let mut i: usize = 0;
-    while i < PEERS_PER_CELL {
-        strike_if(notes, wide(cells[i]), digit, rest);
-        rest = rest / 2;
-        i += 1;
-    }
-}
-
-// The mark `digit` written into those of the cells whose bit is set in the mask, and no others.
-pub fn write_masked_in(notes: &mut [u16; 81], digit: u8, mask: u32, cells: [u8; 20])
-    ensures { λ _. ⌜ now (notes .exit) ≡ writeMasked (now (notes .entry)) digit mask cells ⌝ }
-{
-    let mut rest = mask;
-    let mut i: usize = 0;
-    while i < PEERS_PER_CELL {
-        write_if(notes, wide(cells[i]), digit, rest);
-        rest = rest / 2;
-        i += 1;
-    }
-}
-
-// What was found so far, and whether the mark `digit` stands in the note, where the lowest bit of the mask is set.
-fn has_step(ok: bool, note: u16, digit: u8, mask: u32) -> bool
-    ensures { λ r. ⌜ r ≡ both ok (either (not (lowest mask)) (containsOf note digit)) ⌝ }
-{
-    if lowest_bit(mask) > bit_of(note, digit) {
-        return false;
-    }
-    ok
-}
-
-// What was found so far, and whether the mark `digit` is missing in the note, where the lowest bit of the mask is set.
-fn lacks_step(ok: bool, note: u16, digit: u8, mask: u32) -> bool
-    ensures { λ r. ⌜ r ≡ both ok (either (not (lowest mask)) (not (containsOf note digit))) ⌝ }
-{
-    if lowest_bit(mask) + bit_of(note, digit) == 2 {
-        return false;
-    }
-    ok
-}
-
-// Whether each of the cells whose bit is set in the mask has the mark `digit`. The loop has no early exit, so that it asks nothing that cannot be foretold.
-pub fn masked_have(notes: &[u16; 81], digit: u8, mask: u32, cells: [u8; 20]) -> bool
-    ensures { λ r. ⌜ r ≡ everyMasked (λ peer. containsOf (at (now (notes .entry)) peer) digit) mask cells ⌝ }
-{
+    let all: &[u8] = cells;
     let mut ok = true;
     let mut rest = mask;
     let mut i: usize = 0;
-    while i < PEERS_PER_CELL {
-        ok = has_step(ok, note_at(notes, wide(cells[i])), digit, rest);
+    while i < all.len() {
+        let lacked = write_if(notes, wide(all[i]), digit, rest);
+        ok = ok & lacked;
         rest = rest / 2;
         i += 1;
     }
     ok
 }
 
-// Whether none of the cells whose bit is set in the mask has the mark `digit`.
-pub fn masked_lack(notes: &[u16; 81], digit: u8, mask: u32, cells: [u8; 20]) -> bool
-    ensures { λ r. ⌜ r ≡ everyMasked (λ peer. not (containsOf (at (now (notes .entry)) peer) digit)) mask cells ⌝ }
+// The mark `digit` struck from those of the cells whose bit is set in the mask. Answered is whether each of them had it when its turn came.
+pub fn strike_masked_in(notes: &mut [u16; 81], digit: u8, mask: u32, cells: &[u8; 20]) -> bool
+    ensures { λ r. ⌜ (r ≡ haveInTurn (now (notes .entry)) digit mask (now (cells .entry))) × (now (notes .exit) ≡ strikeMasked (now (notes .entry)) digit mask (now (cells .entry))) ⌝ }
 {
+    let all: &[u8] = cells;
     let mut ok = true;
     let mut rest = mask;
     let mut i: usize = 0;
-    while i < PEERS_PER_CELL {
-        ok = lacks_step(ok, note_at(notes, wide(cells[i])), digit, rest);
+    while i < all.len() {
+        let had = strike_if(notes, wide(all[i]), digit, rest);
+        ok = ok & had;
         rest = rest / 2;
         i += 1;
     }

@@ -5,10 +5,13 @@ use mathlib.Core.Path.{_≡_, refl, sym, ap, _∙_}
 use mathlib.Core.Logic.{_≢_}
 use mathlib.Core.Bool.{Bool, true, false, not}
 use Prim.Native.Nat.{ℕ, zero, suc, _+_, _-_, _*_, _/_, _%_, _^_, _≤_, _<_}
-use native.Mathlib.Nat.{sub-add-cancel, div-one, zero-div, add-zero}
+use native.Mathlib.Nat.{sub-add-cancel, div-one, zero-div, zero-mul, add-zero, add-comm, mul-comm, pow-suc}
+use native.Mathlib.Numerals.{add-one}
 use native.Mathlib.Omega.{arith}
+use lib.Bits.{bitAnd, bitOr, and-high, and-zero-r, or-add-and}
 use lib.Dec.{eqb}
-use borrow.Author.Tests.{ltb-true, lt-ltb, eq-eqb, eqb-true, eqb-false}
+use lib.Pow.{pow-pos}
+use borrow.Author.Tests.{ltb-true, lt-ltb, eq-eqb, ne-eqb, eqb-true, eqb-false}
 use Rattle.sudoku.specs.Tests.{pick, both, either, bit, count}
 use Rattle.sudoku.proofs.Walks.{by-test, pick-true, pick-false, length-among, count-le, count-none, both-left, both-right, both-second, both-false-right, either-first, either-right}
 use Rattle.sudoku.specs.Grid.{inRange}
@@ -86,14 +89,6 @@ pub without-power : (n d : ℕ) → contains n d ≡ true → without n d ≡ n 
 without-power n d h = rw (power-digit d (contains-digit n d h)) (without-there n d h)
 
 -- ---- the same by the mark's bit, without a test
-
-eqb-bit : (b : Bool) → eqb (bit b) 1 ≡ b
-unfolding bit
-eqb-bit true = refl
-eqb-bit false = refl
-
-pub bit-tests : (n d : ℕ) → eqb (bit (contains n d)) 1 ≡ contains n d
-bit-tests n d = eqb-bit (contains n d)
 
 -- a number taken no or one time
 pub times-le : (x b : ℕ) → b ≤ 1 → x * b ≤ x
@@ -232,6 +227,49 @@ pub bit-of : (n d : ℕ) → inRange d ≡ true → bit (contains n d) ≡ n / 2
 unfolding bit
 bit-of n d r = by-test (contains n d) (λ h. rw h (sym (contains-bit n d h))) (λ h. rw h (sym (absent-bit n d r h)))
 
+-- ---- the same by the operations on words: a note and the mark's value have the mark in common or nothing
+
+power-alone : (k : ℕ) → 2 ^ k ≡ 2 ^ (1 + k) - 2 ^ k
+power-alone k = let e : 2 ^ (1 + k) ≡ 2 ^ k * 2 = ap (λ (x : ℕ). 2 ^ x) (add-comm 1 k ∙ add-one k) ∙ pow-suc 2 k in omega arith
+
+pub and-power : (n d : ℕ) → bitAnd n (powerOf d) ≡ powerOf d * bit (contains n d)
+and-power n d =
+    by-test (inRange d)
+    (λ r. rw (power-digit d r, bit-of n d r) (ap (bitAnd n) (power-alone d) ∙ and-high n 1 d ∙ mul-comm (n / 2 ^ d % 2) (2 ^ d)))
+    (λ r. rw (power-no-digit d r) (and-zero-r n ∙ sym (zero-mul (bit (contains n d)))))
+
+once-or-not : (p : ℕ) (b : Bool) → p * (1 - bit b) + p * bit b ≡ p
+unfolding bit
+once-or-not p true = omega arith
+once-or-not p false = omega arith
+
+times-tests : (p : ℕ) (b : Bool) → (b ≡ true → 0 < p) → not (eqb (p * bit b) 0) ≡ b
+unfolding bit
+times-tests p true h = ap not (ne-eqb (p * 1) 0 (λ e. omega (arith, e, h refl)))
+times-tests p false h = ap not (eq-eqb (p * 0) 0 (omega arith))
+
+times-there : (p : ℕ) (b : Bool) → 0 < p → eqb (p * bit b) p ≡ either false b
+unfolding bit either
+times-there p true h = eq-eqb (p * 1) p (omega arith)
+times-there p false h = ne-eqb (p * 0) p (λ e. omega (arith, e))
+
+pub power-tests : (n d : ℕ) → not (eqb (bitAnd n (powerOf d)) 0) ≡ contains n d
+power-tests n d = rw (and-power n d) (times-tests (powerOf d) (contains n d) (λ h. rw (power-digit d (contains-digit n d h)) (pow-pos d)))
+
+-- all of the mark's value is there where the mark is written, and of what is no digit nothing is missing
+pub power-there : (n d : ℕ) → eqb (bitAnd n (powerOf d)) (powerOf d) ≡ either (not (inRange d)) (contains n d)
+unfolding either
+power-there n d =
+    by-test (inRange d)
+    (λ r. rw (and-power n d, r) (times-there (powerOf d) (contains n d) (rw (power-digit d r) (pow-pos d))))
+    (λ r. rw (power-no-digit d r, r) (ap (λ (k : ℕ). eqb k 0) (and-zero-r n)))
+
+pub or-power : (n d : ℕ) → bitOr n (powerOf d) ≡ withMark n d
+or-power n d = omega (arith, or-add-and n (powerOf d), and-power n d, once-or-not (powerOf d) (contains n d)) ∙ with-bit n d
+
+pub less-power : (n d : ℕ) → n - bitAnd n (powerOf d) ≡ without n d
+less-power n d = rw (and-power n d) (without-bit n d)
+
 pub len-count : (n : ℕ) → lenOf n ≡ count (contains n) 9 1
 unfolding lenOf marks
 len-count n = length-among (contains n) 9 1
@@ -256,20 +294,6 @@ with-fits w n d l f = with-cases n d (λ (m : ℕ). m < 2 ^ w) f (λ r a. added-
 
 pub power-below : (d : ℕ) → powerOf d < 65536
 power-below d = omega (arith, with-absent 0 d (contains-zero d), with-fits 16 0 d (omega arith) (omega arith))
-
-power-fits : (n d : ℕ) → contains n d ≡ true → powerOf d ≤ n
-power-fits n d h = rw (power-digit d (contains-digit n d h)) (power-le n d (contains-bit n d h))
-
-pub bit-fits : (n d : ℕ) → powerOf d * bit (contains n d) ≤ n
-unfolding bit
-bit-fits n d = by-test (contains n d) (λ h. rw h (omega (arith, power-fits n d h))) (λ h. rw h (omega arith))
-
--- writing takes nothing away, and striking adds nothing
-pub with-grows : (n d : ℕ) → n ≤ withMark n d
-with-grows n d = with-cases n d (λ (m : ℕ). n ≤ m) (omega arith) (λ r a. omega arith)
-
-pub without-falls : (n d : ℕ) → without n d ≤ n
-without-falls n d = without-cases n d (λ (m : ℕ). m ≤ n) (omega arith) (λ r a. omega arith)
 
 -- ---- a note is no more than its marks
 

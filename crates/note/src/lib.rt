@@ -2,12 +2,10 @@
 // Every function takes any note and any byte for a digit: what is no digit is no mark of any note.
 use sudoku::in_range;
 ghost use mathlib.Core.Path.{_≡_};
-ghost use Prim.Native.Nat.{_≤_};
-ghost use Rattle.sudoku.specs.Tests.{bit};
 ghost use Rattle.note.specs.Note.{contains as containsOf, withMark, without as withoutMark, lenOf, isEmpty, digitsOf, isNote, powerOf};
 
 // The value of the mark `digit`, and 0 for what is not a digit from 1 to 9.
-fn power(digit: u8) -> u16
+pub fn power(digit: u8) -> u16
     ensures { λ r. ⌜ r ≡ powerOf digit ⌝ }
 {
     if in_range(digit) {
@@ -16,36 +14,26 @@ fn power(digit: u8) -> u16
     0
 }
 
-// 1 where the mark `digit` is written, 0 where it is not. No note holds a mark that is not a digit from 1 to 9.
-pub fn bit_of(note: u16, digit: u8) -> u16
-    ensures { λ r. ⌜ (r ≡ bit (containsOf note digit)) × (r ≤ 1) ⌝ }
-{
-    if in_range(digit) {
-        return (note >> digit) % 2;
-    }
-    0
-}
-
-// Whether the mark `digit` is written.
+// Whether the mark `digit` is written. No note holds a mark that is not a digit from 1 to 9.
 pub fn contains(note: u16, digit: u8) -> bool
     ensures { λ r. ⌜ r ≡ containsOf note digit ⌝ }
 {
-    bit_of(note, digit) == 1
+    note & power(digit) != 0
 }
 
-// The note with the mark `digit` written, or the same note for what is not a digit. What is missing is added without a test, since nothing foretells which
-// of twenty peers has a mark, and a wrong guess costs more than the sum.
+// The note with the mark `digit` written, or the same note for what is not a digit. No test of the mark is made, since nothing foretells which of twenty
+// peers has one, and a wrong guess costs more than the operation.
 pub fn with(note: u16, digit: u8) -> u16
     ensures { λ r. ⌜ r ≡ withMark note digit ⌝ }
 {
-    note + power(digit) * (1 - bit_of(note, digit))
+    note | power(digit)
 }
 
 // The note with the mark `digit` struck. What is there is taken away, without a test.
 pub fn without(note: u16, digit: u8) -> u16
     ensures { λ r. ⌜ r ≡ withoutMark note digit ⌝ }
 {
-    note - power(digit) * bit_of(note, digit)
+    note - (note & power(digit))
 }
 
 // How many marks are written.

@@ -40,11 +40,14 @@ slot-at-requires c κs = search needs
 struck-cells-requires : tie.Need-struck-cells-requires
 struck-cells-requires c κs = search needs
 
+digit-found-requires : tie.Need-digit-found-requires
+digit-found-requires c κs = search needs
+
 move-of-requires : tie.Need-move-of-requires
 move-of-requires c κs = search needs
 
-stands-as-found-requires : tie.Need-stands-as-found-requires
-stands-as-found-requires c κs = search needs
+take-again-requires : tie.Need-take-again-requires
+take-again-requires c κs = search needs
 
 is-sound-requires : tie.Need-is-sound-requires
 is-sound-requires c κs = search needs
@@ -55,11 +58,11 @@ refusal-requires-2 c κs = search needs
 returns-2 : tie.Need-returns-2
 unfolding stateOf
 returns-2 c =
-    let a = c .before .before .before .before .before .before .before .before .before .before .before .before .before .before .before .before .before .before .before .before .before .before .args in
-    let nth = c .before .before .before .before .before .before .before .before .before .before .before .before .slot-to-redo .ensures ∙ next-standing (a .board .made) (a .board .standing) (redo-more (a .board) (a .journal .now) _ (c .before .before .before .before .before .before .before .before .before .before .before .before .before .before .number-of-redo .ensures .0) (c .before .before .before .before .before .before .before .before .before .before .before .before .before .if1 .left)) in
-    let ok : canRetake (stateOf (a .board)) (slotAt (a .journal .now) (a .board .standing + 1)) ≡ (c .before .before .is-sound .result && c .before .before .before .before .before .stands-as-found .result) =
-    rw (c .before .before .is-sound .ensures, c .before .before .before .before .before .stands-as-found .ensures, c .before .before .before .before .before .before .move-of .ensures, c .before .before .before .before .before .before .before .before .before .before .struck-cells .ensures, c .before .before .before .before .before .before .before .before .before .before .before .slot-at .ensures, nth) (sym (retake-parts (stateOf (a .board)) (slotAt (a .journal .now) (a .board .standing + 1)))) in
-    rw (c .refusal2 .ensures, nth) (redo-unfit (a .board) (a .journal .now) _ (c .before .before .before .before .before .before .before .before .before .before .before .before .before .before .number-of-redo .ensures .0) (c .before .before .before .before .before .before .before .before .before .before .before .before .before .if1 .left) (ap not ok ∙ c .before .if2 .taken))
+    let a = c .before .before .before .before .before .before .before .before .before .before .before .before .before .before .before .before .before .before .before .before .before .before .before .before .args in
+    let nth = c .before .before .before .before .before .before .before .before .before .before .before .before .before .before .slot-to-redo .ensures ∙ next-standing (a .board .made) (a .board .standing) (redo-more (a .board) (a .journal .now) _ (c .before .before .before .before .before .before .before .before .before .before .before .before .before .before .before .before .number-of-redo .ensures .0) (c .before .before .before .before .before .before .before .before .before .before .before .before .before .before .before .if1 .left)) in
+    let ok : canRetake (stateOf (a .board)) (slotAt (a .journal .now) (a .board .standing + 1)) ≡ ((c .before .before .is-sound .result && c .before .before .before .before .before .before .before .before .before .digit-found .result) && c .before .before .before .before .before .take-again .result) =
+    rw (c .before .before .is-sound .ensures, c .before .before .before .before .before .before .before .before .before .digit-found .ensures, c .before .before .before .before .before .take-again .ensures .0, c .before .before .before .before .before .before .before .move-of .ensures, c .before .before .before .before .before .before .before .before .before .before .before .before .struck-cells .ensures, c .before .before .before .before .before .before .before .before .before .before .before .before .before .slot-at .ensures, nth) (sym (retake-parts (stateOf (a .board)) (slotAt (a .journal .now) (a .board .standing + 1)))) in
+    rw (c .refusal2 .ensures, nth) (redo-unfit (a .board) (a .journal .now) _ (c .before .before .before .before .before .before .before .before .before .before .before .before .before .before .before .before .number-of-redo .ensures .0) (c .before .before .before .before .before .before .before .before .before .before .before .before .before .before .before .if1 .left) (ap not ok ∙ c .before .if2 .taken))
 
 after-retake-requires : tie.Need-after-retake-requires
 after-retake-requires c κs = search needs
@@ -67,21 +70,15 @@ after-retake-requires c κs = search needs
 put-again-requires : tie.Need-put-again-requires
 put-again-requires c κs = search needs
 
-move-of-requires-2 : tie.Need-move-of-requires-2
-move-of-requires-2 c κs = search needs
-
-take-again-requires : tie.Need-take-again-requires
-take-again-requires c κs = search needs
-
 returns-3 : tie.Need-returns-3
 unfolding redone moved boardOf stateOf countsOf
 returns-3 c =
-    let a = c .before .before .before .before .before .before .before .before .before .before .before .before .before .before .before .before .before .before .before .before .before .before .before .before .before .before .before .before .before .before .args in
-    let nth = c .before .before .before .before .before .before .before .before .before .before .before .before .before .before .before .before .before .before .before .before .slot-to-redo .ensures ∙ next-standing (a .board .made) (a .board .standing) (redo-more (a .board) (a .journal .now) _ (c .before .before .before .before .before .before .before .before .before .before .before .before .before .before .before .before .before .before .before .before .before .before .number-of-redo .ensures .0) (c .before .before .before .before .before .before .before .before .before .before .before .before .before .before .before .before .before .before .before .before .before .if1 .left)) in
-    let ok : canRetake (stateOf (a .board)) (slotAt (a .journal .now) (a .board .standing + 1)) ≡ (c .before .before .before .before .before .before .before .before .before .before .is-sound .result && c .before .before .before .before .before .before .before .before .before .before .before .before .before .stands-as-found .result) =
-    rw (c .before .before .before .before .before .before .before .before .before .before .is-sound .ensures, c .before .before .before .before .before .before .before .before .before .before .before .before .before .stands-as-found .ensures, c .before .before .before .before .before .before .before .before .before .before .before .before .before .before .move-of .ensures, c .before .before .before .before .before .before .before .before .before .before .before .before .before .before .before .before .before .before .struck-cells .ensures, c .before .before .before .before .before .before .before .before .before .before .before .before .before .before .before .before .before .before .before .slot-at .ensures, nth) (sym (retake-parts (stateOf (a .board)) (slotAt (a .journal .now) (a .board .standing + 1)))) in
-    let none = redo-fit (a .board) (a .journal .now) _ (c .before .before .before .before .before .before .before .before .before .before .before .before .before .before .before .before .before .before .before .before .before .before .number-of-redo .ensures .0) (c .before .before .before .before .before .before .before .before .before .before .before .before .before .before .before .before .before .before .before .before .before .if1 .left) (ap not ok ∙ c .before .before .before .before .before .before .before .before .before .if2 .left) in
-    rw (c .before .before .before .before .before .before .before .before .before .before .before .before .before .before .before .before .before .before .before .before .before .before .before .before .before .before .before .before .accepted .ensures, c .before .before .before .take-again .ensures, c .before .before .before .before .move-of2 .ensures, c .before .before .before .before .before .before .put-again .ensures .0, c .before .before .before .before .before .before .put-again .ensures .1, c .before .before .before .before .before .before .before .before .after-retake .ensures, c .before .before .before .before .before .before .before .before .before .before .before .before .before .before .before .before .before .before .struck-cells .ensures, c .before .before .before .before .before .before .before .before .before .before .before .before .before .before .before .before .before .before .before .slot-at .ensures, nth)
+    let a = c .before .before .before .before .before .before .before .before .before .before .before .before .before .before .before .before .before .before .before .before .before .before .before .before .before .before .before .before .before .args in
+    let nth = c .before .before .before .before .before .before .before .before .before .before .before .before .before .before .before .before .before .before .before .slot-to-redo .ensures ∙ next-standing (a .board .made) (a .board .standing) (redo-more (a .board) (a .journal .now) _ (c .before .before .before .before .before .before .before .before .before .before .before .before .before .before .before .before .before .before .before .before .before .number-of-redo .ensures .0) (c .before .before .before .before .before .before .before .before .before .before .before .before .before .before .before .before .before .before .before .before .if1 .left)) in
+    let ok : canRetake (stateOf (a .board)) (slotAt (a .journal .now) (a .board .standing + 1)) ≡ ((c .before .before .before .before .before .before .before .is-sound .result && c .before .before .before .before .before .before .before .before .before .before .before .before .before .before .digit-found .result) && c .before .before .before .before .before .before .before .before .before .before .take-again .result) =
+    rw (c .before .before .before .before .before .before .before .is-sound .ensures, c .before .before .before .before .before .before .before .before .before .before .before .before .before .before .digit-found .ensures, c .before .before .before .before .before .before .before .before .before .before .take-again .ensures .0, c .before .before .before .before .before .before .before .before .before .before .before .before .move-of .ensures, c .before .before .before .before .before .before .before .before .before .before .before .before .before .before .before .before .before .struck-cells .ensures, c .before .before .before .before .before .before .before .before .before .before .before .before .before .before .before .before .before .before .slot-at .ensures, nth) (sym (retake-parts (stateOf (a .board)) (slotAt (a .journal .now) (a .board .standing + 1)))) in
+    let none = redo-fit (a .board) (a .journal .now) _ (c .before .before .before .before .before .before .before .before .before .before .before .before .before .before .before .before .before .before .before .before .before .number-of-redo .ensures .0) (c .before .before .before .before .before .before .before .before .before .before .before .before .before .before .before .before .before .before .before .before .if1 .left) (ap not ok ∙ c .before .before .before .before .before .before .if2 .left) in
+    rw (c .before .before .before .before .before .before .before .before .before .before .before .before .before .before .before .before .before .before .before .before .before .before .before .before .before .before .before .accepted .ensures, c .before .before .before .before .before .before .before .before .before .before .take-again .ensures .1, c .before .before .before .before .before .before .before .before .before .before .before .before .move-of .ensures, c .before .before .before .put-again .ensures .0, c .before .before .before .put-again .ensures .1, c .before .before .before .before .before .after-retake .ensures, c .before .before .before .before .before .before .before .before .before .before .before .before .before .before .before .before .before .struck-cells .ensures, c .before .before .before .before .before .before .before .before .before .before .before .before .before .before .before .before .before .before .slot-at .ensures, nth)
     (ap (λ (s : State). answer accepted (moved (a .board) s (retaken (countsOf (a .board))))) (again-parts (stateOf (a .board)) (slotAt (a .journal .now) (a .board .standing + 1))) ∙ redo-made (a .board) (a .journal .now) none)
 
 pub redo-spec : {M : Type 1} → statement M
@@ -95,13 +92,12 @@ redo-spec =
     slot-to-redo-requires
     slot-at-requires
     struck-cells-requires
+    digit-found-requires
     move-of-requires
-    stands-as-found-requires
+    take-again-requires
     is-sound-requires
     refusal-requires-2
     returns-2
     after-retake-requires
     put-again-requires
-    move-of-requires-2
-    take-again-requires
     returns-3)

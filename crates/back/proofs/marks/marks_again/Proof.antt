@@ -21,8 +21,9 @@ take-again-requires c κs = search needs
 
 returns : tie.Need-returns
 unfolding moved boardOf stateOf countsOf
-returns c = let a = c .before .before .before .before .args in
-    rw (c .take-again .ensures, c .before .move-of .ensures, c .before .before .before .struck-cells .ensures)
+returns c =
+    let a = c .before .before .before .before .before .args in
+    rw (c .take-again .ensures .1, c .before .before .move-of .ensures, c .before .before .before .before .struck-cells .ensures)
     (ap (λ (s : State). moved (a .board) s (countsOf (a .board))) (marks-again-parts (stateOf (a .board)) (moveOf (a .slot)) (a .slot .struck) (struckCells (a .slot))))
 
 pub marks-again-spec : {M : Type 1} → statement M

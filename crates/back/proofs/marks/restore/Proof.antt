@@ -1,13 +1,13 @@
 -- `back::marks::restore` meets its contract.
 -- Assumes nothing.
 use mathlib.Core.Path.{sym}
-use Rattle.back.proofs.Parts.{write-none}
+use Rattle.back.proofs.Parts.{write-none, lack-none}
 use borrow.Author.Needs.{needs}
 use Rattle.back.proofs.marks.restore.Statement.{statement}
 use Rattle.back.proofs.marks.restore.Tie as tie
 
 returns : tie.Need-returns
-returns c = rw (c .if1 .taken) (sym (write-none _ _ _))
+returns c = rw (c .if1 .taken) (sym (lack-none _ _ _), sym (write-none _ _ _))
 
 write-masked-in-requires : tie.Need-write-masked-in-requires
 write-masked-in-requires c κs = search needs

@@ -1,13 +1,13 @@
 -- `back::marks::strike_again` meets its contract.
 -- Assumes nothing.
 use mathlib.Core.Path.{sym}
-use Rattle.back.proofs.Parts.{strike-none}
+use Rattle.back.proofs.Parts.{strike-none, have-none}
 use borrow.Author.Needs.{needs}
 use Rattle.back.proofs.marks.strike_again.Statement.{statement}
 use Rattle.back.proofs.marks.strike_again.Tie as tie
 
 returns : tie.Need-returns
-returns c = rw (c .if1 .taken) (sym (strike-none _ _ _))
+returns c = rw (c .if1 .taken) (sym (have-none _ _ _), sym (strike-none _ _ _))
 
 strike-masked-in-requires : tie.Need-strike-masked-in-requires
 strike-masked-in-requires c κs = search needs

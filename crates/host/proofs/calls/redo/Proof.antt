@@ -52,8 +52,14 @@ slot-at-requires c κs = search needs
 struck-cells-requires : tie.Need-struck-cells-requires
 struck-cells-requires c κs = search needs
 
-as-found-requires : tie.Need-as-found-requires
-as-found-requires c κs = search needs
+digit-found-requires : tie.Need-digit-found-requires
+digit-found-requires c κs = search needs
+
+move-of-requires : tie.Need-move-of-requires
+move-of-requires c κs = search needs
+
+take-again-requires : tie.Need-take-again-requires
+take-again-requires c κs = search needs
 
 is-sound-requires : tie.Need-is-sound-requires
 is-sound-requires c κs = search needs
@@ -64,14 +70,14 @@ refusal-requires-2 c κs = search needs
 returns-2 : tie.Need-returns-2
 unfolding redoBefore lentBy isBoard boardIn madeIn hasFlags stateOf
 returns-2 c =
-    let a = c .before .before .before .before .before .before .before .before .before .before .before .before .before .before .before .before .before .before .before .before .before .before .before .before .before .before .before .args in
-    let e = rw (c .before .before .before .before .before .before .before .before .before .before .before .before .before .before .before .before .before .before .made-in .ensures, c .before .before .before .before .before .before .before .before .before .before .before .before .before .before .before .before .before .before .before .before .before .flags-in .ensures) at (c .before .before .before .before .before .before .before .before .before .before .before .before .number-of-redo .ensures .0) in
-    let nth = (rw (c .before .before .before .before .before .before .before .before .before .before .before .before .before .before .before .before .before .before .made-in .ensures) at (c .before .before .before .before .before .before .before .before .before .before .slot-to-redo .ensures)) ∙ next-standing (madeIn (a .board)) (a .board .standing) (redo-more (boardIn (a .board)) (a .journal .now) _ e (c .before .before .before .before .before .before .before .before .before .before .before .if1 .left)) in
-    let ok : canRetake (stateOf (boardIn (a .board))) (slotAt (a .journal .now) (a .board .standing + 1)) ≡ (c .before .before .is-sound .result && c .before .before .before .before .as-found .result) =
-    rw (c .before .before .is-sound .ensures, c .before .before .before .before .as-found .ensures, c .before .before .before .before .before .before .before .before .struck-cells .ensures, c .before .before .before .before .before .before .before .before .before .slot-at .ensures, nth, c .before .before .before .before .before .before .before .before .before .before .before .before .before .before .before .before .before .before .before .before .before .flags-in .ensures) (sym (retake-parts (stateOf (boardIn (a .board))) (slotAt (a .journal .now) (a .board .standing + 1)))) in
+    let a = c .before .before .before .before .before .before .before .before .before .before .before .before .before .before .before .before .before .before .before .before .before .before .before .before .before .before .before .before .before .before .args in
+    let e = rw (c .before .before .before .before .before .before .before .before .before .before .before .before .before .before .before .before .before .before .before .before .before .made-in .ensures, c .before .before .before .before .before .before .before .before .before .before .before .before .before .before .before .before .before .before .before .before .before .before .before .before .flags-in .ensures) at (c .before .before .before .before .before .before .before .before .before .before .before .before .before .before .before .number-of-redo .ensures .0) in
+    let nth = (rw (c .before .before .before .before .before .before .before .before .before .before .before .before .before .before .before .before .before .before .before .before .before .made-in .ensures) at (c .before .before .before .before .before .before .before .before .before .before .before .before .before .slot-to-redo .ensures)) ∙ next-standing (madeIn (a .board)) (a .board .standing) (redo-more (boardIn (a .board)) (a .journal .now) _ e (c .before .before .before .before .before .before .before .before .before .before .before .before .before .before .if1 .left)) in
+    let ok : canRetake (stateOf (boardIn (a .board))) (slotAt (a .journal .now) (a .board .standing + 1)) ≡ ((c .before .before .is-sound .result && c .before .before .before .before .before .before .before .before .digit-found .result) && c .before .before .before .before .take-again .result) =
+    rw (c .before .before .is-sound .ensures, c .before .before .before .before .before .before .before .before .digit-found .ensures, c .before .before .before .before .take-again .ensures .0, c .before .before .before .before .before .before .move-of .ensures, c .before .before .before .before .before .before .before .before .before .before .before .struck-cells .ensures, c .before .before .before .before .before .before .before .before .before .before .before .before .slot-at .ensures, nth, c .before .before .before .before .before .before .before .before .before .before .before .before .before .before .before .before .before .before .before .before .before .before .before .before .flags-in .ensures) (sym (retake-parts (stateOf (boardIn (a .board))) (slotAt (a .journal .now) (a .board .standing + 1)))) in
     rw (c .refusal2 .ensures, nth)
     (answered-refused (a .board) 14 (a .board .standing + 1) (boardIn (a .board)) (λ p. omega (arith, p))
-    ∙ ap (answered (a .board)) (redo-unfit (boardIn (a .board)) (a .journal .now) _ e (c .before .before .before .before .before .before .before .before .before .before .before .if1 .left) (ap not ok ∙ c .before .if2 .taken)))
+    ∙ ap (answered (a .board)) (redo-unfit (boardIn (a .board)) (a .journal .now) _ e (c .before .before .before .before .before .before .before .before .before .before .before .before .before .before .if1 .left) (ap not ok ∙ c .before .if2 .taken)))
 
 after-retake-requires : tie.Need-after-retake-requires
 after-retake-requires c κs = search needs
@@ -79,24 +85,21 @@ after-retake-requires c κs = search needs
 put-again-requires : tie.Need-put-again-requires
 put-again-requires c κs = search needs
 
-take-slot-again-requires : tie.Need-take-slot-again-requires
-take-slot-again-requires c κs = search needs
-
 flag-of-requires : tie.Need-flag-of-requires
 flag-of-requires c κs = search needs
 
 returns-3 : tie.Need-returns-3
 unfolding redoBefore lentBy isBoard boardIn madeIn hasFlags stateOf
 returns-3 c =
-    let a = c .before .before .before .before .before .before .before .before .before .before .before .before .before .before .before .before .before .before .before .before .before .before .before .before .before .before .before .before .before .before .before .before .before .before .before .args in
-    let e = rw (c .before .before .before .before .before .before .before .before .before .before .before .before .before .before .before .before .before .before .before .before .before .before .before .before .before .before .made-in .ensures, c .before .before .before .before .before .before .before .before .before .before .before .before .before .before .before .before .before .before .before .before .before .before .before .before .before .before .before .before .before .flags-in .ensures) at (c .before .before .before .before .before .before .before .before .before .before .before .before .before .before .before .before .before .before .before .before .number-of-redo .ensures .0) in
-    let nth = (rw (c .before .before .before .before .before .before .before .before .before .before .before .before .before .before .before .before .before .before .before .before .before .before .before .before .before .before .made-in .ensures) at (c .before .before .before .before .before .before .before .before .before .before .before .before .before .before .before .before .before .before .slot-to-redo .ensures)) ∙ next-standing (madeIn (a .board)) (a .board .standing) (redo-more (boardIn (a .board)) (a .journal .now) _ e (c .before .before .before .before .before .before .before .before .before .before .before .before .before .before .before .before .before .before .before .if1 .left)) in
-    let ok : canRetake (stateOf (boardIn (a .board))) (slotAt (a .journal .now) (a .board .standing + 1)) ≡ (c .before .before .before .before .before .before .before .before .before .before .is-sound .result && c .before .before .before .before .before .before .before .before .before .before .before .before .as-found .result) =
-    rw (c .before .before .before .before .before .before .before .before .before .before .is-sound .ensures, c .before .before .before .before .before .before .before .before .before .before .before .before .as-found .ensures, c .before .before .before .before .before .before .before .before .before .before .before .before .before .before .before .before .struck-cells .ensures, c .before .before .before .before .before .before .before .before .before .before .before .before .before .before .before .before .before .slot-at .ensures, nth, c .before .before .before .before .before .before .before .before .before .before .before .before .before .before .before .before .before .before .before .before .before .before .before .before .before .before .before .before .before .flags-in .ensures) (sym (retake-parts (stateOf (boardIn (a .board))) (slotAt (a .journal .now) (a .board .standing + 1)))) in
-    let n : length (a .board .given) ≡ 81 = search (needs, c .before .before .before .before .before .before .before .before .before .before .before .before .before .before .before .before .before .before .before .before .before .before .before .before .before .before .before .before .before .before .before .before .before .before .before .good) in
-    let none = redo-fit (boardIn (a .board)) (a .journal .now) _ e (c .before .before .before .before .before .before .before .before .before .before .before .before .before .before .before .before .before .before .before .if1 .left) (ap not ok ∙ c .before .before .before .before .before .before .before .before .before .if2 .left) in
+    let a = c .before .before .before .before .before .before .before .before .before .before .before .before .before .before .before .before .before .before .before .before .before .before .before .before .before .before .before .before .before .before .before .before .before .before .before .before .args in
+    let e = rw (c .before .before .before .before .before .before .before .before .before .before .before .before .before .before .before .before .before .before .before .before .before .before .before .before .before .before .before .made-in .ensures, c .before .before .before .before .before .before .before .before .before .before .before .before .before .before .before .before .before .before .before .before .before .before .before .before .before .before .before .before .before .before .flags-in .ensures) at (c .before .before .before .before .before .before .before .before .before .before .before .before .before .before .before .before .before .before .before .before .before .number-of-redo .ensures .0) in
+    let nth = (rw (c .before .before .before .before .before .before .before .before .before .before .before .before .before .before .before .before .before .before .before .before .before .before .before .before .before .before .before .made-in .ensures) at (c .before .before .before .before .before .before .before .before .before .before .before .before .before .before .before .before .before .before .before .slot-to-redo .ensures)) ∙ next-standing (madeIn (a .board)) (a .board .standing) (redo-more (boardIn (a .board)) (a .journal .now) _ e (c .before .before .before .before .before .before .before .before .before .before .before .before .before .before .before .before .before .before .before .before .if1 .left)) in
+    let ok : canRetake (stateOf (boardIn (a .board))) (slotAt (a .journal .now) (a .board .standing + 1)) ≡ ((c .before .before .before .before .before .before .before .before .is-sound .result && c .before .before .before .before .before .before .before .before .before .before .before .before .before .before .digit-found .result) && c .before .before .before .before .before .before .before .before .before .before .take-again .result) =
+    rw (c .before .before .before .before .before .before .before .before .is-sound .ensures, c .before .before .before .before .before .before .before .before .before .before .before .before .before .before .digit-found .ensures, c .before .before .before .before .before .before .before .before .before .before .take-again .ensures .0, c .before .before .before .before .before .before .before .before .before .before .before .before .move-of .ensures, c .before .before .before .before .before .before .before .before .before .before .before .before .before .before .before .before .before .struck-cells .ensures, c .before .before .before .before .before .before .before .before .before .before .before .before .before .before .before .before .before .before .slot-at .ensures, nth, c .before .before .before .before .before .before .before .before .before .before .before .before .before .before .before .before .before .before .before .before .before .before .before .before .before .before .before .before .before .before .flags-in .ensures) (sym (retake-parts (stateOf (boardIn (a .board))) (slotAt (a .journal .now) (a .board .standing + 1)))) in
+    let n : length (a .board .given) ≡ 81 = search (needs, c .before .before .before .before .before .before .before .before .before .before .before .before .before .before .before .before .before .before .before .before .before .before .before .before .before .before .before .before .before .before .before .before .before .before .before .before .good) in
+    let none = redo-fit (boardIn (a .board)) (a .journal .now) _ e (c .before .before .before .before .before .before .before .before .before .before .before .before .before .before .before .before .before .before .before .before .if1 .left) (ap not ok ∙ c .before .before .before .before .before .before .before .if2 .left) in
     let kept = flags-kept (a .board .given) n (counted-flags (a .board) (redo-counted (a .board) (a .journal .now) none)) in
-    rw (c .before .before .before .before .before .before .before .before .before .before .before .before .before .before .before .before .before .before .before .before .before .before .before .before .before .before .before .before .before .before .before .before .before .accepted .ensures, c .before .before .before .flag-of .ensures, c .before .before .before .before .take-slot-again .ensures, c .before .before .before .before .before .before .put-again .ensures .0, c .before .before .before .before .before .before .put-again .ensures .1, c .before .before .before .before .before .before .before .before .after-retake .ensures, c .before .before .before .before .before .before .before .before .before .before .before .before .before .before .before .before .struck-cells .ensures, c .before .before .before .before .before .before .before .before .before .before .before .before .before .before .before .before .before .slot-at .ensures, nth, c .before .before .before .before .before .before .before .before .before .before .before .before .before .before .before .before .before .before .before .before .before .before .before .before .before .before .made-in .ensures)
+    rw (c .before .before .before .before .before .before .before .before .before .before .before .before .before .before .before .before .before .before .before .before .before .before .before .before .before .before .before .before .before .before .before .before .before .before .accepted .ensures, c .before .before .before .flag-of .ensures, c .before .before .before .before .before .before .before .before .before .before .take-again .ensures .1, c .before .before .before .before .before .before .before .before .before .before .before .before .move-of .ensures, c .before .before .before .before .put-again .ensures .0, c .before .before .before .before .put-again .ensures .1, c .before .before .before .before .before .before .after-retake .ensures, c .before .before .before .before .before .before .before .before .before .before .before .before .before .before .before .before .before .struck-cells .ensures, c .before .before .before .before .before .before .before .before .before .before .before .before .before .before .before .before .before .before .slot-at .ensures, nth, c .before .before .before .before .before .before .before .before .before .before .before .before .before .before .before .before .before .before .before .before .before .before .before .before .before .before .before .made-in .ensures)
     (redo-left (a .board) (slotAt (a .journal .now) (a .board .standing + 1)) kept ∙ ap (answered (a .board)) (redo-made (boardIn (a .board)) (a .journal .now) none))
 
 pub redo-spec : {M : Type 1} → statement M
@@ -112,12 +115,13 @@ redo-spec =
     slot-to-redo-requires
     slot-at-requires
     struck-cells-requires
-    as-found-requires
+    digit-found-requires
+    move-of-requires
+    take-again-requires
     is-sound-requires
     refusal-requires-2
     returns-2
     after-retake-requires
     put-again-requires
-    take-slot-again-requires
     flag-of-requires
     returns-3)

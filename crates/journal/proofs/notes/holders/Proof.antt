@@ -4,7 +4,7 @@ use Prim.Native.Nat.{_≤_}
 use mathlib.Core.Path.{_≡_, sym, _∙_}
 use native.Mathlib.Omega.{arith}
 use borrow.Author.Needs.{needs}
-use lib.ListN.{drop}
+use lib.ListN.{length, drop}
 use Rattle.journal.specs.State.{holders}
 use Rattle.journal.proofs.CellLoops.{holders-turn, holders-end, holders-fit}
 use Rattle.journal.proofs.notes.holders.Statement.{statement}
@@ -16,8 +16,12 @@ Inv-loop notes digit cells mask₀ i₀ mask i = (i ≤ 20) × (mask ≡ holders
 abbrev μ-loop : tie.MeasureT-loop
 μ-loop notes digit cells mask₀ i₀ mask i = i
 
+-- the cells are twenty
+twenty : (c : tie.Start Inv-loop μ-loop) → length (c .args .t3) ≡ 20
+twenty c = search needs
+
 loop-holds : tie.Need-loop-holds Inv-loop μ-loop
-loop-holds c = (omega arith, sym (holders-end (c .args .t3) 20 (search needs) (omega arith) _ _))
+loop-holds c = (omega arith, sym (holders-end (c .args .t3) 20 (rw (twenty c) (omega arith)) _ _))
 
 sub-i : tie.Need-sub-i Inv-loop μ-loop
 sub-i c = search needs

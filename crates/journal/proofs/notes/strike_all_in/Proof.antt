@@ -2,7 +2,7 @@
 -- Assumes nothing.
 use Prim.Native.Nat.{_-_}
 use mathlib.Core.Path.{_≡_, refl, sym, _∙_}
-use lib.ListN.{drop}
+use lib.ListN.{length, drop}
 use Rattle.journal.specs.State.{strikeAll}
 use Rattle.journal.proofs.CellLoops.{strike-all-turn, strike-all-end}
 use borrow.Author.Needs.{needs}
@@ -33,11 +33,15 @@ add-i c = search needs
 loop-less : tie.Need-loop-less Inv-loop μ-loop
 loop-less c = search needs
 
+-- the cells are twenty
+twenty : (c : tie.Start Inv-loop μ-loop) → length (c .args .t3) ≡ 20
+twenty c = search needs
+
 loop-again : tie.Need-loop-again Inv-loop μ-loop
-loop-again c = c .before .before .before .before .loop .inv ∙ strike-all-turn (c .before .before .before .before .before .args .t3) (c .before .before .before .before .loop .i) (search needs) (c .before .before .before .loop-test .taken) _ _ ∙ rw (c .strike-in .ensures, c .before .wide .ensures .0)
+loop-again c = c .before .before .before .before .loop .inv ∙ strike-all-turn (c .before .before .before .before .before .args .t3) (c .before .before .before .before .loop .i) (rw (twenty (c .before .before .before .before .before)) (c .before .before .before .loop-test .taken)) _ _ ∙ rw (c .strike-in .ensures, c .before .wide .ensures .0)
 
 returns : tie.Need-returns Inv-loop μ-loop
-returns c = sym (c .before .loop .inv ∙ strike-all-end (c .before .before .args .t3) (c .before .loop .i) (search needs) (c .loop-test .left) _ _)
+returns c = sym (c .before .loop .inv ∙ strike-all-end (c .before .before .args .t3) (c .before .loop .i) (rw (twenty (c .before .before)) (c .loop-test .left)) _ _)
 
 pub strike-all-in-spec : {M : Type 1} → statement M
 strike-all-in-spec = tie.close (tie.spec Inv-loop μ-loop loop-holds array-read-wide wide-requires strike-in-requires add-i loop-less loop-again returns)
