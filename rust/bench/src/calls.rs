@@ -119,16 +119,37 @@ impl Boards<'_> {
     }
 }
 
+/// Runs `f` some 256 bytes of stack deeper for each level.
+///
+/// Where the stack lies is the system's choice at each start, and a board that is passed by value across the border of
+/// a page takes some 8 ns more. So the rounds of a table go through sixteen depths, a page in all: its medians do not
+/// hang on that choice.
+#[inline(never)]
+fn deeper(levels: usize, f: &mut dyn FnMut()) {
+    let pad = [0u8; 208];
+    black_box(&pad);
+    if levels == 0 {
+        f();
+    } else {
+        deeper(levels - 1, f);
+    }
+    black_box(&pad);
+}
+
 /// What the boundary itself costs: a call that is refused at once, by number 1, hands the board over and back and does
 /// nothing else.
 fn boundary(puzzle: &Puzzle, rounds: usize, refused: impl Fn(&mut Ours)) -> f64 {
     let mut boards: Vec<Ours> = puzzle.cells.iter().map(|_| Ours::unopened()).collect();
     boards.iter_mut().for_each(|board| board.open(puzzle));
     let mut times: Vec<f64> = (0..rounds)
-        .map(|_| {
-            let start = Instant::now();
-            boards.iter_mut().for_each(&refused);
-            start.elapsed().as_nanos() as f64 / boards.len() as f64
+        .map(|round| {
+            let mut time = 0.0;
+            deeper(round % 16, &mut || {
+                let start = Instant::now();
+                boards.iter_mut().for_each(&refused);
+                time = start.elapsed().as_nanos() as f64 / boards.len() as f64;
+            });
+            time
         })
         .collect();
     median_and_worst(&mut times).0
@@ -138,8 +159,8 @@ pub fn table(puzzle: &Puzzle, rounds: usize) {
     original::solver::load(&puzzle.solution);
     for pencilled in [false, true] {
         let mut boards = Boards { puzzle, theirs: Vec::new(), ours: Vec::new(), times: Vec::new(), next: 0 };
-        for _ in 0..rounds {
-            boards.round(pencilled);
+        for round in 0..rounds {
+            deeper(round % 16, &mut || boards.round(pencilled));
         }
         let marks = if pencilled { "the digit pencilled into every peer" } else { "no marks" };
         heading(&format!("call, {marks}"));
