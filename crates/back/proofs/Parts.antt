@@ -19,7 +19,7 @@ use Rattle.journal.specs.declared.Move.{Move}
 use Rattle.journal.specs.declared.Move.the-variants.{Place, Erase, WriteMark, StrikeMark}
 use Rattle.journal.specs.declared.Slot.{Slot}
 use Rattle.journal.specs.State.{State, withNotes, putDigit, lowest, writeMasked, strikeMasked, everyMasked, perform, performAgain, takeBack, digitAt, noteAt, standsAsLeft, standsAsFound}
-use Rattle.journal.specs.InTurn.{inTurn, lackInTurn, haveInTurn}
+use Rattle.journal.specs.InTurn.{inTurn, lackInTurn, noneMissingInTurn}
 use Rattle.journal.specs.Slots.{moveOf, digitChange, soundPlace, isSound, isFree, soundFor}
 use Rattle.journal.proofs.SlotLaws.{sound-place}
 use Rattle.journal.proofs.InTurn.{lack-peers, have-peers}
@@ -53,8 +53,8 @@ pub lack-none : (notes : List ℕ) (d : ℕ) (cells : List ℕ) → lackInTurn n
 unfolding lackInTurn
 lack-none notes d cells = in-turn-none _ _ notes cells
 
-pub have-none : (notes : List ℕ) (d : ℕ) (cells : List ℕ) → haveInTurn notes d 0 cells ≡ true
-unfolding haveInTurn
+pub have-none : (notes : List ℕ) (d : ℕ) (cells : List ℕ) → noneMissingInTurn notes d 0 cells ≡ true
+unfolding noneMissingInTurn
 have-none notes d cells = in-turn-none _ _ notes cells
 
 -- a walk by a slot's mask over the cells it speaks of is the walk over the peers
@@ -91,10 +91,10 @@ module _ (slot : Slot) where
         by-struck (λ mask cells. lackInTurn notes d mask cells) true (lack-none notes d)
         ∙ lack-peers notes d (slot .struck) (cellOf (slot .row) (slot .column)) sound-cell
 
-    have-struck : (notes : List ℕ) (d : ℕ) → inRange d ≡ true → haveInTurn notes d (slot .struck) (struckCells slot)
+    have-struck : (notes : List ℕ) (d : ℕ) → inRange d ≡ true → noneMissingInTurn notes d (slot .struck) (struckCells slot)
         ≡ everyMasked (λ peer. contains (at notes peer) d) (slot .struck) (peersOf (cellOf (slot .row) (slot .column)))
     have-struck notes d r =
-        by-struck (λ mask cells. haveInTurn notes d mask cells) true (have-none notes d)
+        by-struck (λ mask cells. noneMissingInTurn notes d mask cells) true (have-none notes d)
         ∙ have-peers notes d (slot .struck) (cellOf (slot .row) (slot .column)) sound-cell r
 
 -- ---- the digit alone, and the marks alone
@@ -116,12 +116,19 @@ marks-again-parts s (StrikeMark row column digit) mask cells = refl
 
 -- ---- the whole, by what the tests of the kind byte say: a place, an erase, a mark written
 
+-- a slot's move and its digit change by these tests
+abbrev moveBy : ℕ → ℕ → ℕ → Bool → Bool → Bool → Move
+moveBy row column digit p e w = pick p (Place row column digit) (pick e (Erase row column) (pick w (WriteMark row column digit) (StrikeMark row column digit)))
+
+abbrev changeBy : ℕ → ℕ → Bool → Bool → DigitChange
+changeBy before digit p e = pick p (Put before digit) (pick e (Put before 0) None)
+
 module _ (s : State) (row column digit before mask : ℕ) (cells : List ℕ) where
   back-by : writeMasked (s .notes) digit mask cells ≡ writeMasked (s .notes) digit mask (peersOf (cellOf row column)) → (p e w : Bool)
-      → parts (s .given) (digitBack (parts [] (s .digits) [] (s .solved)) (cellOf row column) (pick p (Put before digit) (pick e (Put before 0) None)) .digits)
-      (marksBack (parts [] [] (s .notes) false) (pick p (Place row column digit) (pick e (Erase row column) (pick w (WriteMark row column digit) (StrikeMark row column digit)))) mask cells .notes)
-      (digitBack (parts [] (s .digits) [] (s .solved)) (cellOf row column) (pick p (Put before digit) (pick e (Put before 0) None)) .solved)
-      ≡ takeBack s (pick p (Place row column digit) (pick e (Erase row column) (pick w (WriteMark row column digit) (StrikeMark row column digit)))) before mask
+      → parts (s .given) (digitBack (parts [] (s .digits) [] (s .solved)) (cellOf row column) (changeBy before digit p e) .digits)
+      (marksBack (parts [] [] (s .notes) false) (moveBy row column digit p e w) mask cells .notes)
+      (digitBack (parts [] (s .digits) [] (s .solved)) (cellOf row column) (changeBy before digit p e) .solved)
+      ≡ takeBack s (moveBy row column digit p e w) before mask
   unfolding pick marksBack digitBack takeBack withNotes putDigit
   back-by h true e w = ap (λ (notes : List ℕ). parts (s .given) (putDigit (parts [] (s .digits) [] (s .solved)) (cellOf row column) before .digits) notes (putDigit (parts [] (s .digits) [] (s .solved)) (cellOf row column) before .solved)) h
   back-by h false true w = refl
@@ -129,10 +136,10 @@ module _ (s : State) (row column digit before mask : ℕ) (cells : List ℕ) whe
   back-by h false false false = refl
 
   again-by : strikeMasked (s .notes) digit mask cells ≡ strikeMasked (s .notes) digit mask (peersOf (cellOf row column)) → (p e w : Bool)
-      → parts (s .given) (digitAgain (parts [] (s .digits) [] (s .solved)) (cellOf row column) (pick p (Put before digit) (pick e (Put before 0) None)) .digits)
-      (marksAgain (parts [] [] (s .notes) false) (pick p (Place row column digit) (pick e (Erase row column) (pick w (WriteMark row column digit) (StrikeMark row column digit)))) mask cells .notes)
-      (digitAgain (parts [] (s .digits) [] (s .solved)) (cellOf row column) (pick p (Put before digit) (pick e (Put before 0) None)) .solved)
-      ≡ performAgain s (pick p (Place row column digit) (pick e (Erase row column) (pick w (WriteMark row column digit) (StrikeMark row column digit)))) mask
+      → parts (s .given) (digitAgain (parts [] (s .digits) [] (s .solved)) (cellOf row column) (changeBy before digit p e) .digits)
+      (marksAgain (parts [] [] (s .notes) false) (moveBy row column digit p e w) mask cells .notes)
+      (digitAgain (parts [] (s .digits) [] (s .solved)) (cellOf row column) (changeBy before digit p e) .solved)
+      ≡ performAgain s (moveBy row column digit p e w) mask
   unfolding pick marksAgain digitAgain performAgain perform withNotes putDigit
   again-by h true e w = ap (λ (notes : List ℕ). parts (s .given) (putDigit (parts [] (s .digits) [] (s .solved)) (cellOf row column) digit .digits) notes (putDigit (parts [] (s .digits) [] (s .solved)) (cellOf row column) digit .solved)) h
   again-by h false true w = refl
@@ -140,19 +147,19 @@ module _ (s : State) (row column digit before mask : ℕ) (cells : List ℕ) whe
   again-by h false false false = refl
 
   left-by : (p e w : Bool) → (p ≡ true → lackInTurn (s .notes) digit mask cells ≡ everyMasked (λ peer. not (contains (noteAt s peer) digit)) mask (peersOf (cellOf row column)))
-      → both (digitLeft (parts [] (s .digits) [] false) (cellOf row column) (pick p (Put before digit) (pick e (Put before 0) None)))
-      (marksLeft (s .notes) (pick p (Place row column digit) (pick e (Erase row column) (pick w (WriteMark row column digit) (StrikeMark row column digit)))) mask cells)
-      ≡ standsAsLeft s (pick p (Place row column digit) (pick e (Erase row column) (pick w (WriteMark row column digit) (StrikeMark row column digit)))) mask
+      → both (digitLeft (parts [] (s .digits) [] false) (cellOf row column) (changeBy before digit p e))
+      (marksLeft (s .notes) (moveBy row column digit p e w) mask cells)
+      ≡ standsAsLeft s (moveBy row column digit p e w) mask
   unfolding pick digitLeft marksLeft standsAsLeft digitAt noteAt both
   left-by true e w h = ap (both (eqb (digitAt s (cellOf row column)) digit)) (h refl)
   left-by false true w h = both-second (eqb (digitAt s (cellOf row column)) 0) true refl
   left-by false false true h = refl
   left-by false false false h = refl
 
-  found-by : (p e w : Bool) → (p ≡ true → haveInTurn (s .notes) digit mask cells ≡ everyMasked (λ peer. contains (noteAt s peer) digit) mask (peersOf (cellOf row column)))
-      → both (digitFound (parts [] (s .digits) [] false) (cellOf row column) (pick p (Put before digit) (pick e (Put before 0) None)))
-      (marksFound (s .notes) (pick p (Place row column digit) (pick e (Erase row column) (pick w (WriteMark row column digit) (StrikeMark row column digit)))) mask cells)
-      ≡ standsAsFound s (pick p (Place row column digit) (pick e (Erase row column) (pick w (WriteMark row column digit) (StrikeMark row column digit)))) before mask
+  found-by : (p e w : Bool) → (p ≡ true → noneMissingInTurn (s .notes) digit mask cells ≡ everyMasked (λ peer. contains (noteAt s peer) digit) mask (peersOf (cellOf row column)))
+      → both (digitFound (parts [] (s .digits) [] false) (cellOf row column) (changeBy before digit p e))
+      (marksFound (s .notes) (moveBy row column digit p e w) mask cells)
+      ≡ standsAsFound s (moveBy row column digit p e w) before mask
   unfolding pick digitFound marksFound standsAsFound digitAt noteAt both
   found-by true e w h = ap (both (eqb (digitAt s (cellOf row column)) before)) (h refl)
   found-by false true w h = both-second (eqb (digitAt s (cellOf row column)) before) true refl

@@ -1,5 +1,5 @@
--- A recorded move taken back and performed again in two steps, as the code goes: first the digit of its cell, then the marks.
--- The peers that a slot's mask speaks of are handed on: proofs/Parts shows that the two steps with these are the whole of specs/State.
+-- A recorded move taken back and performed again in two parts, the digit of its cell and the marks, and what is asked of each before.
+-- The peers that a slot's mask speaks of are handed on: proofs/Parts shows that the two parts with these are the whole of specs/State, what is asked where the slot is sound.
 -- Assumes nothing.
 use Prim.Native.Nat.{ℕ, _+_}
 use mathlib.Core.Bool.{Bool, true, not}
@@ -15,7 +15,7 @@ use Rattle.journal.specs.declared.Move.{Move}
 use Rattle.journal.specs.declared.Move.the-variants.{Place, Erase, WriteMark, StrikeMark}
 use Rattle.journal.specs.declared.Slot.{Slot}
 use Rattle.journal.specs.State.{State, withNotes, putDigit, digitAt, writeAt, strikeAt, writeMasked, strikeMasked}
-use Rattle.journal.specs.InTurn.{lackInTurn, haveInTurn}
+use Rattle.journal.specs.InTurn.{lackInTurn, noneMissingInTurn}
 use Rattle.board.specs.declared.Board.{Board}
 use Rattle.play.specs.Play.{lentBy}
 
@@ -68,9 +68,9 @@ marksLeft notes (Erase row column) mask cells = true
 marksLeft notes (WriteMark row column digit) mask cells = contains (at notes (cellOf row column)) digit
 marksLeft notes (StrikeMark row column digit) mask cells = not (contains (at notes (cellOf row column)) digit)
 
--- they stand as the move found them, each asked when it is changed again
+-- none of them is missing that the move found, each asked when it is changed again
 unfoldable pub marksFound : List ℕ → Move → ℕ → List ℕ → Bool
-marksFound notes (Place row column digit) mask cells = haveInTurn notes digit mask cells
+marksFound notes (Place row column digit) mask cells = noneMissingInTurn notes digit mask cells
 marksFound notes (Erase row column) mask cells = true
 marksFound notes (WriteMark row column digit) mask cells = not (contains (at notes (cellOf row column)) digit)
 marksFound notes (StrikeMark row column digit) mask cells = contains (at notes (cellOf row column)) digit

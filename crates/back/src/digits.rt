@@ -15,7 +15,7 @@ ghost use Rattle.board.specs.Board.{stateOf, countsOf, moved};
 ghost use Rattle.play.specs.Parts.{parts};
 ghost use Rattle.back.specs.Halves.{digitBack, digitAgain, digitLeft, digitFound};
 
-// Whether the digit that a slot's move changed stands as the move left it. A move that changes no digit left every digit.
+// Whether the digit that a slot's move changed stands as the move left it. A move that changes no digit goes on to the marks alone.
 pub fn digit_left(digits: &[u8; 81], slot: Slot) -> bool
     ensures { λ r. ⌜ r ≡ digitLeft (parts [] (now (digits .entry)) [] false) (cellOf (slot .row) (slot .column)) (digitChange slot) ⌝ }
 {
@@ -26,7 +26,7 @@ pub fn digit_left(digits: &[u8; 81], slot: Slot) -> bool
     digit_at(digits, cell_of(slot.row, slot.column)) == after
 }
 
-// Whether the digit that a slot's move changes stands as the move found it.
+// Whether the digit that a slot's move changes stands as the move found it. A move that changes no digit goes on to the marks alone.
 pub fn digit_found(digits: &[u8; 81], slot: Slot) -> bool
     ensures { λ r. ⌜ r ≡ digitFound (parts [] (now (digits .entry)) [] false) (cellOf (slot .row) (slot .column)) (digitChange slot) ⌝ }
 {
@@ -37,7 +37,7 @@ pub fn digit_found(digits: &[u8; 81], slot: Slot) -> bool
     digit_at(digits, cell_of(slot.row, slot.column)) == before
 }
 
-// The digit before, put back in place; the status afterwards is answered. A move that changes no digit goes on to the marks alone.
+// The digit before, put back in place; the status afterwards is answered. A move that changes no digit leaves both.
 pub fn put_back(digits: &mut [u8; 81], solved: bool, slot: Slot) -> bool
     ensures { λ r. ⌜ (r ≡ digitBack (parts [] (now (digits .entry)) [] solved) (cellOf (slot .row) (slot .column)) (digitChange slot) .solved) × (now (digits .exit) ≡ digitBack (parts [] (now (digits .entry)) [] solved) (cellOf (slot .row) (slot .column)) (digitChange slot) .digits) ⌝ }
 {
@@ -48,7 +48,7 @@ pub fn put_back(digits: &mut [u8; 81], solved: bool, slot: Slot) -> bool
     put_in(digits, solved, cell_of(slot.row, slot.column), before)
 }
 
-// The digit after, put again in place; the status afterwards is answered. A move that changes no digit goes on to the marks alone.
+// The digit after, put again in place; the status afterwards is answered. A move that changes no digit leaves both.
 pub fn put_again(digits: &mut [u8; 81], solved: bool, slot: Slot) -> bool
     ensures { λ r. ⌜ (r ≡ digitAgain (parts [] (now (digits .entry)) [] solved) (cellOf (slot .row) (slot .column)) (digitChange slot) .solved) × (now (digits .exit) ≡ digitAgain (parts [] (now (digits .entry)) [] solved) (cellOf (slot .row) (slot .column)) (digitChange slot) .digits) ⌝ }
 {

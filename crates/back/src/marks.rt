@@ -18,13 +18,13 @@ ghost use mathlib.Core.List.{[]};
 ghost use Rattle.sudoku.specs.Grid.{at};
 ghost use Rattle.note.specs.Note.{contains as containsOf};
 ghost use Rattle.journal.specs.State.{writeAt, strikeAt, writeMasked, strikeMasked};
-ghost use Rattle.journal.specs.InTurn.{lackInTurn, haveInTurn};
+ghost use Rattle.journal.specs.InTurn.{lackInTurn, noneMissingInTurn};
 ghost use Rattle.journal.specs.Slots.{moveOf};
 ghost use Rattle.board.specs.Board.{stateOf, countsOf, moved};
 ghost use Rattle.play.specs.Parts.{parts};
 ghost use Rattle.back.specs.Halves.{struckCells, marksBack, marksAgain, marksLeft, marksFound};
 
-// The peers that a slot's mask speaks of. A mask of 0 speaks of none, and twenty zeros stand for them: most places strike nothing, and need no peers.
+// The peers that a slot's mask speaks of. A mask of 0 speaks of none, and twenty zeros stand for them: a place that struck nothing needs no peers.
 pub fn struck_cells(slot: Slot) -> [u8; 20]
     ensures { λ r. ⌜ r ≡ struckCells slot ⌝ }
 {
@@ -62,9 +62,9 @@ fn restore(notes: &mut [u16; 81], digit: u8, mask: u32, cells: &[u8; 20]) -> boo
     write_masked_in(notes, digit, mask, cells)
 }
 
-// The mark struck from the notes of the cells in the mask, and from no others. Answered is whether each of them had it.
+// The mark struck from the notes of the cells in the mask, and from no others. Answered is whether it was missing in none of them.
 fn strike_again(notes: &mut [u16; 81], digit: u8, mask: u32, cells: &[u8; 20]) -> bool
-    ensures { λ r. ⌜ (r ≡ haveInTurn (now (notes .entry)) digit mask (now (cells .entry))) × (now (notes .exit) ≡ strikeMasked (now (notes .entry)) digit mask (now (cells .entry))) ⌝ }
+    ensures { λ r. ⌜ (r ≡ noneMissingInTurn (now (notes .entry)) digit mask (now (cells .entry))) × (now (notes .exit) ≡ strikeMasked (now (notes .entry)) digit mask (now (cells .entry))) ⌝ }
 {
     if mask == 0 {
         return true;
@@ -96,7 +96,7 @@ pub fn give_back(notes: &mut [u16; 81], m: Move, mask: u32, cells: &[u8; 20]) ->
     }
 }
 
-// Exactly the marks in the mask, or the mark changed, struck or written again in place. Answered is whether they stood as the move found them.
+// Exactly the marks in the mask, or the mark changed, struck or written again in place. Answered is whether they stood as the move found them; what is no digit is missing nowhere.
 pub fn take_again(notes: &mut [u16; 81], m: Move, mask: u32, cells: &[u8; 20]) -> bool
     ensures { λ r. ⌜ (r ≡ marksFound (now (notes .entry)) m mask (now (cells .entry))) × (now (notes .exit) ≡ marksAgain (parts [] [] (now (notes .entry)) false) m mask (now (cells .entry)) .notes) ⌝ }
 {

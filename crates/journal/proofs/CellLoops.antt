@@ -1,4 +1,4 @@
--- The loops over a list of cells: what a turn takes off each walk of specs/State over what is left of the list, `drop i cells`.
+-- The loops over a list of cells: what a turn takes off each walk of specs/State and specs/InTurn over what is left of the list, `drop i cells`.
 -- Assumes nothing.
 use Prim.Native.Nat.{ℕ, zero, suc, _+_, _-_, _*_, _/_, _%_, _≤_, _<_, _^_}
 use mathlib.Core.Path.{_≡_, refl, sym, ap, _∙_}
@@ -20,7 +20,7 @@ use Rattle.sudoku.proofs.Walks.{by-test, both-second, either-right}
 use Rattle.note.specs.Note.{contains, withMark, without, powerOf}
 use Rattle.note.proofs.Note.{or-power, less-power, power-tests, power-there, contains-zero}
 use Rattle.journal.specs.State.{writeAt, strikeAt, strikeAll, holders, lowest, strikeMasked, writeMasked}
-use Rattle.journal.specs.InTurn.{inTurn, lacks, has}
+use Rattle.journal.specs.InTurn.{inTurn, lacks, notMissing}
 use Rattle.journal.proofs.NoteCells.{holders-small}
 
 -- ---- what is left of the list
@@ -124,8 +124,8 @@ module _ (n d : ℕ) where
   lacks-mark true = sym (not-not (eqb (bitAnd n (powerOf d)) 0)) ∙ ap not (power-tests n d)
   lacks-mark false = ap (λ (k : ℕ). eqb k 0) (and-zero-r n)
 
-  pub has-mark : (b : Bool) → eqb (bitAnd n (pick b (powerOf d) 0)) (pick b (powerOf d) 0) ≡ either (not b) (has d n)
-  unfolding pick either has
+  pub has-mark : (b : Bool) → eqb (bitAnd n (pick b (powerOf d) 0)) (pick b (powerOf d) 0) ≡ either (not b) (notMissing d n)
+  unfolding pick either notMissing
   has-mark true = power-there n d
   has-mark false = ap (λ (k : ℕ). eqb k 0) (and-zero-r n)
 
@@ -139,7 +139,7 @@ unfolding lacks
 lacks-past notes cell d b h = rw (at-past notes cell h, contains-zero d) (sym (either-right (not b) true refl))
 
 pub has-past : (notes : List ℕ) (cell d : ℕ) (b : Bool) → length notes ≤ cell - 1
-    → eqb (pick b (powerOf d) 0) 0 ≡ either (not b) (has d (at notes cell))
+    → eqb (pick b (powerOf d) 0) 0 ≡ either (not b) (notMissing d (at notes cell))
 has-past notes cell d b h = rw (at-past notes cell h) (eqb-comm (pick b (powerOf d) 0) 0 ∙ has-mark 0 d b)
 
 -- what a cell's note becomes is stored: where it stays, the list does

@@ -8,12 +8,12 @@ use sudoku::PEERS_PER_CELL;
 use sudoku::wide;
 ghost use mathlib.Core.Path.{_≡_};
 ghost use mathlib.Core.Bool.{not};
-ghost use Prim.Native.Nat.{_+_, _*_, _≤_, _<_, _^_};
+ghost use Prim.Native.Nat.{_+_, _*_, _<_, _^_};
 ghost use Rattle.sudoku.specs.Tests.{pick, either, bit};
 ghost use Rattle.sudoku.specs.Grid.{at};
 ghost use Rattle.note.specs.Note.{contains as containsOf, powerOf};
 ghost use Rattle.journal.specs.State.{writeAt, strikeAt, strikeAll, holders as holdersOf, lowest, strikeMasked, writeMasked};
-ghost use Rattle.journal.specs.InTurn.{lacks, has, lackInTurn, haveInTurn};
+ghost use Rattle.journal.specs.InTurn.{lacks, notMissing, lackInTurn, noneMissingInTurn};
 
 // The kept note of a cell, and an empty note where there is no such cell.
 pub fn note_at(notes: &[u16; 81], cell: usize) -> u16
@@ -86,21 +86,14 @@ pub fn holders(notes: &[u16; 81], digit: u8, cells: [u8; 20]) -> u32
     mask
 }
 
-// The lowest bit of a mask.
-fn lowest_bit(mask: u32) -> u16
-    ensures { λ r. ⌜ (r ≡ bit (lowest mask)) × (r ≤ 1) ⌝ }
-{
-    (mask % 2) as u16
-}
-
 // The value of the mark `digit` where the lowest bit of the mask is set, and 0 where it is not. No test of the bit is made: nothing foretells it.
 fn mark_if(digit: u8, mask: u32) -> u16
     ensures { λ r. ⌜ r ≡ pick (lowest mask) (powerOf digit) 0 ⌝ }
 {
-    lowest_bit(mask) * power(digit)
+    (mask % 2) as u16 * power(digit)
 }
 
-// The mark `digit` written at a cell where the lowest bit of the mask is set. Answered is whether it was lacking there.
+// The mark `digit` written at a cell where the lowest bit of the mask is set. Answered is whether the cell lacked it; yes where the bit is not set.
 fn write_if(notes: &mut [u16; 81], cell: usize, digit: u8, mask: u32) -> bool
     ensures { λ r. ⌜ (r ≡ either (not (lowest mask)) (lacks digit (at (now (notes .entry)) cell))) × (now (notes .exit) ≡ pick (lowest mask) (writeAt (now (notes .entry)) cell digit) (now (notes .entry))) ⌝ }
 {
@@ -115,9 +108,9 @@ fn write_if(notes: &mut [u16; 81], cell: usize, digit: u8, mask: u32) -> bool
     note & mark == 0
 }
 
-// The mark `digit` struck at a cell where the lowest bit of the mask is set. Answered is whether it was there; what is no digit is missed nowhere.
+// The mark `digit` struck at a cell where the lowest bit of the mask is set. Answered is whether it was not missing there; yes where the bit is not set, and what is no digit is missing nowhere.
 fn strike_if(notes: &mut [u16; 81], cell: usize, digit: u8, mask: u32) -> bool
-    ensures { λ r. ⌜ (r ≡ either (not (lowest mask)) (has digit (at (now (notes .entry)) cell))) × (now (notes .exit) ≡ pick (lowest mask) (strikeAt (now (notes .entry)) cell digit) (now (notes .entry))) ⌝ }
+    ensures { λ r. ⌜ (r ≡ either (not (lowest mask)) (notMissing digit (at (now (notes .entry)) cell))) × (now (notes .exit) ≡ pick (lowest mask) (strikeAt (now (notes .entry)) cell digit) (now (notes .entry))) ⌝ }
 {
     let all: &mut [u16] = notes;
     let at = index_of(cell);
@@ -147,17 +140,17 @@ pub fn write_masked_in(notes: &mut [u16; 81], digit: u8, mask: u32, cells: &[u8;
     ok
 }
 
-// The mark `digit` struck from those of the cells whose bit is set in the mask. Answered is whether each of them had it when its turn came.
+// The mark `digit` struck from those of the cells whose bit is set in the mask. Answered is whether it was missing in none of them when its turn came.
 pub fn strike_masked_in(notes: &mut [u16; 81], digit: u8, mask: u32, cells: &[u8; 20]) -> bool
-    ensures { λ r. ⌜ (r ≡ haveInTurn (now (notes .entry)) digit mask (now (cells .entry))) × (now (notes .exit) ≡ strikeMasked (now (notes .entry)) digit mask (now (cells .entry))) ⌝ }
+    ensures { λ r. ⌜ (r ≡ noneMissingInTurn (now (notes .entry)) digit mask (now (cells .entry))) × (now (notes .exit) ≡ strikeMasked (now (notes .entry)) digit mask (now (cells .entry))) ⌝ }
 {
     let all: &[u8] = cells;
     let mut ok = true;
     let mut rest = mask;
     let mut i: usize = 0;
     while i < all.len() {
-        let had = strike_if(notes, wide(all[i]), digit, rest);
-        ok = ok & had;
+        let stood = strike_if(notes, wide(all[i]), digit, rest);
+        ok = ok & stood;
         rest = rest / 2;
         i += 1;
     }

@@ -39,7 +39,7 @@ module _ (n d : ℕ) where
   pub absent-bit : inRange d ≡ true → contains n d ≡ false → n / 2 ^ d % 2 ≡ 0
   absent-bit r h = let ne : n / 2 ^ d % 2 ≢ 1 = eqb-false _ _ (sym (bit-contains r) ∙ h) in omega arith
 
-  pub no-digit : inRange d ≡ false → contains n d ≡ false
+  no-digit : inRange d ≡ false → contains n d ≡ false
   unfolding contains both
   no-digit r = rw r
 
@@ -106,12 +106,12 @@ unfolding bit pick
 taken-by n p true = omega arith
 taken-by n p false = omega arith
 
-pub with-bit : (n d : ℕ) → n + powerOf d * (1 - bit (contains n d)) ≡ withMark n d
+with-bit : (n d : ℕ) → n + powerOf d * (1 - bit (contains n d)) ≡ withMark n d
 with-bit n d =
     added-by n (powerOf d) (contains n d)
     ∙ by-test (contains n d) (λ h. pick-true _ _ _ h ∙ sym (with-there n d h)) (λ h. pick-false _ _ _ h ∙ sym (with-absent n d h))
 
-pub without-bit : (n d : ℕ) → n - powerOf d * bit (contains n d) ≡ without n d
+without-bit : (n d : ℕ) → n - powerOf d * bit (contains n d) ≡ without n d
 without-bit n d =
     taken-by n (powerOf d) (contains n d)
     ∙ by-test (contains n d) (λ h. pick-true _ _ _ h ∙ sym (without-power n d h)) (λ h. pick-false _ _ _ h ∙ sym (without-absent n d h))
@@ -227,12 +227,29 @@ pub bit-of : (n d : ℕ) → inRange d ≡ true → bit (contains n d) ≡ n / 2
 unfolding bit
 bit-of n d r = by-test (contains n d) (λ h. rw h (sym (contains-bit n d h))) (λ h. rw h (sym (absent-bit n d r h)))
 
+pub len-count : (n : ℕ) → lenOf n ≡ count (contains n) 9 1
+unfolding lenOf marks
+len-count n = length-among (contains n) 9 1
+
+pub len-le : (n : ℕ) → lenOf n ≤ 9
+len-le n = rw (len-count n) (count-le (contains n) 9 1)
+
+-- no mark stands in an empty note
+pub empty-contains : (n d : ℕ) → isEmpty n ≡ true → contains n d ≡ false
+unfolding isEmpty
+empty-contains n d h =
+    by-test (inRange d)
+    (λ r.
+    count-none (contains n) 9 1 d (sym (len-count n) ∙ eqb-true _ _ h) (range-from d r)
+    (omega (arith, range-to d r)))
+    (λ r. no-digit n d r)
+
 -- ---- the same by the operations on words: a note and the mark's value have the mark in common or nothing
 
 power-alone : (k : ℕ) → 2 ^ k ≡ 2 ^ (1 + k) - 2 ^ k
 power-alone k = let e : 2 ^ (1 + k) ≡ 2 ^ k * 2 = ap (λ (x : ℕ). 2 ^ x) (add-comm 1 k ∙ add-one k) ∙ pow-suc 2 k in omega arith
 
-pub and-power : (n d : ℕ) → bitAnd n (powerOf d) ≡ powerOf d * bit (contains n d)
+and-power : (n d : ℕ) → bitAnd n (powerOf d) ≡ powerOf d * bit (contains n d)
 and-power n d =
     by-test (inRange d)
     (λ r. rw (power-digit d r, bit-of n d r) (ap (bitAnd n) (power-alone d) ∙ and-high n 1 d ∙ mul-comm (n / 2 ^ d % 2) (2 ^ d)))
@@ -270,30 +287,14 @@ or-power n d = omega (arith, or-add-and n (powerOf d), and-power n d, once-or-no
 pub less-power : (n d : ℕ) → n - bitAnd n (powerOf d) ≡ without n d
 less-power n d = rw (and-power n d) (without-bit n d)
 
-pub len-count : (n : ℕ) → lenOf n ≡ count (contains n) 9 1
-unfolding lenOf marks
-len-count n = length-among (contains n) 9 1
-
-pub len-le : (n : ℕ) → lenOf n ≤ 9
-len-le n = rw (len-count n) (count-le (contains n) 9 1)
-
--- no mark stands in an empty note
-pub empty-contains : (n d : ℕ) → isEmpty n ≡ true → contains n d ≡ false
-unfolding isEmpty
-empty-contains n d h =
+-- the value of a mark fits a word
+pub power-below : (d : ℕ) → powerOf d < 65536
+power-below d =
     by-test (inRange d)
     (λ r.
-    count-none (contains n) 9 1 d (sym (len-count n) ∙ eqb-true _ _ h) (range-from d r)
-    (omega (arith, range-to d r)))
-    (λ r. no-digit n d r)
-
--- ---- what fits a word: the sum does where the note does, and no difference falls below 0
-
-pub with-fits : (w n d : ℕ) → 10 ≤ w → n < 2 ^ w → withMark n d < 2 ^ w
-with-fits w n d l f = with-cases n d (λ (m : ℕ). m < 2 ^ w) f (λ r a. added-fits w n d (omega (arith, range-to d r)) f a)
-
-pub power-below : (d : ℕ) → powerOf d < 65536
-power-below d = omega (arith, with-absent 0 d (contains-zero d), with-fits 16 0 d (omega arith) (omega arith))
+    let e : 0 / 2 ^ d % 2 ≡ 0 = rw (zero-div (2 ^ d)) in
+    omega (arith, power-digit d r, added-fits 16 0 d (omega (arith, range-to d r)) (omega arith) e))
+    (λ r. rw (power-no-digit d r) (omega arith))
 
 -- ---- a note is no more than its marks
 

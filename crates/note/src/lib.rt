@@ -21,15 +21,14 @@ pub fn contains(note: u16, digit: u8) -> bool
     note & power(digit) != 0
 }
 
-// The note with the mark `digit` written, or the same note for what is not a digit. No test of the mark is made, since nothing foretells which of twenty
-// peers has one, and a wrong guess costs more than the operation.
+// The note with the mark `digit` written, or the same note for what is not a digit.
 pub fn with(note: u16, digit: u8) -> u16
     ensures { λ r. ⌜ r ≡ withMark note digit ⌝ }
 {
     note | power(digit)
 }
 
-// The note with the mark `digit` struck. What is there is taken away, without a test.
+// The note with the mark `digit` struck.
 pub fn without(note: u16, digit: u8) -> u16
     ensures { λ r. ⌜ r ≡ withoutMark note digit ⌝ }
 {

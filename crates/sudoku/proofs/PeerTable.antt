@@ -46,7 +46,7 @@ table-peers table cell p h =
     ∙ sym (peers-on cell h)
 
 -- x is none of the numbers 1 to n: what the last arm of a match on them knows
-abbrev pub NoneTo : ℕ → ℕ → Type 0
+abbrev NoneTo : ℕ → ℕ → Type 0
 NoneTo zero x = Unit
 NoneTo (suc n) x = NoneTo n x × (x ≡ suc n → ⊥)
 

@@ -119,14 +119,14 @@ impl Boards<'_> {
     }
 }
 
-/// Runs `f` some 256 bytes of stack deeper for each level.
+/// Runs `f` 272 bytes of stack deeper for each level.
 ///
 /// Where the stack lies is the system's choice at each start, and a board that is passed by value across the border of
-/// a page takes some 8 ns more. So the rounds of a table go through sixteen depths, a page in all: its medians do not
-/// hang on that choice.
+/// a page takes longer. So the rounds of a table go through sixteen depths, a page in all, and its medians do not hang
+/// on that choice; they are what a call takes at most depths.
 #[inline(never)]
 fn deeper(levels: usize, f: &mut dyn FnMut()) {
-    let pad = [0u8; 208];
+    let pad = [0u8; 240];
     black_box(&pad);
     if levels == 0 {
         f();

@@ -6,7 +6,7 @@ use mathlib.Core.Path.{_≡_, refl, sym, _∙_}
 use lib.ListN.{length, drop}
 use Rattle.sudoku.specs.Tests.{both}
 use Rattle.journal.specs.State.{strikeAt, strikeMasked}
-use Rattle.journal.specs.InTurn.{has, haveInTurn}
+use Rattle.journal.specs.InTurn.{notMissing, noneMissingInTurn}
 use Rattle.journal.proofs.CellLoops.{in-turn-step, in-turn-end, strike-masked-turn, strike-masked-end}
 use borrow.Author.Needs.{needs}
 use Rattle.journal.proofs.notes.strike_masked_in.Statement.{statement}
@@ -14,7 +14,7 @@ use Rattle.journal.proofs.notes.strike_masked_in.Tie as tie
 
 abbrev Inv-loop : tie.InvT-loop
 Inv-loop notes₀ digit mask cells all ok₀ rest₀ i₀ notes ok rest i =
-    (haveInTurn notes₀ digit mask cells ≡ both ok (haveInTurn notes digit rest (drop i cells))) × (strikeMasked notes₀ digit mask cells ≡ strikeMasked notes digit rest (drop i cells))
+    (noneMissingInTurn notes₀ digit mask cells ≡ both ok (noneMissingInTurn notes digit rest (drop i cells))) × (strikeMasked notes₀ digit mask cells ≡ strikeMasked notes digit rest (drop i cells))
 
 abbrev μ-loop : tie.MeasureT-loop
 μ-loop notes₀ digit mask cells all ok₀ rest₀ i₀ notes ok rest i = length cells - i
@@ -39,12 +39,12 @@ loop-less : tie.Need-loop-less Inv-loop μ-loop
 loop-less c = search needs
 
 loop-again : tie.Need-loop-again Inv-loop μ-loop
-unfolding haveInTurn
+unfolding noneMissingInTurn
 loop-again c =
     let a = c .before .before .before .before .before .before .before .args in
     let turn = c .before .before .before .before .before .loop in (
       turn .inv .0
-          ∙ in-turn-step (a .cells .now) (turn .i) (c .before .before .before .before .loop-test .taken) (λ l cell. strikeAt l cell (a .digit)) (has (a .digit)) (turn .notes) _ (turn .rest) (turn .ok) _
+          ∙ in-turn-step (a .cells .now) (turn .i) (c .before .before .before .before .loop-test .taken) (λ l cell. strikeAt l cell (a .digit)) (notMissing (a .digit)) (turn .notes) _ (turn .rest) (turn .ok) _
           (rw (← c .before .wide .ensures .0) (c .strike-if .ensures .0)) (rw (← c .before .wide .ensures .0) (c .strike-if .ensures .1)),
       turn .inv .1
           ∙ strike-masked-turn (a .cells .now) (turn .i) (c .before .before .before .before .loop-test .taken) _ _ _
@@ -52,7 +52,7 @@ loop-again c =
     )
 
 returns : tie.Need-returns Inv-loop μ-loop
-unfolding haveInTurn
+unfolding noneMissingInTurn
 returns c =
     let a = c .before .before .before .args in
     let turn = c .before .loop in (
