@@ -121,9 +121,10 @@ impl Boards<'_> {
 
 /// Runs `f` 272 bytes of stack deeper for each level.
 ///
-/// Where the stack lies is the system's choice at each start, and a board that is passed by value across the border of
-/// a page takes longer. So the rounds of a table go through sixteen depths, a page in all, and its medians do not hang
-/// on that choice; they are what a call takes at most depths.
+/// Where the stack lies is the system's choice at each start, and at some three depths of sixteen a call of the library
+/// takes up to 10 ns more, it seems where a board that is passed by value crosses the border of a page. So the rounds
+/// of a table go through sixteen depths, a page in all, and its medians do not hang on that choice; they are what a
+/// call takes at most depths.
 #[inline(never)]
 fn deeper(levels: usize, f: &mut dyn FnMut()) {
     let pad = [0u8; 240];
