@@ -1,5 +1,5 @@
 -- A recorded move taken back and performed again in two parts, the digit of its cell and the marks, and what is asked of each before.
--- The peers that a slot's mask speaks of are handed on: proofs/Parts shows that the two parts with these are the whole of specs/State, what is asked where the slot is sound.
+-- The peers that a slot's mask speaks of are handed on: proofs/Parts shows that the two parts with these are the whole of specs/State, and that of a sound slot they ask the whole.
 -- Assumes nothing.
 use Prim.Native.Nat.{ℕ, _+_}
 use mathlib.Core.Bool.{Bool, true, not}
@@ -68,7 +68,7 @@ marksLeft notes (Erase row column) mask cells = true
 marksLeft notes (WriteMark row column digit) mask cells = contains (at notes (cellOf row column)) digit
 marksLeft notes (StrikeMark row column digit) mask cells = not (contains (at notes (cellOf row column)) digit)
 
--- none of them is missing that the move found, each asked when it is changed again
+-- they stand as the move found them, each asked when it is changed again; what is no digit is missing nowhere
 unfoldable pub marksFound : List ℕ → Move → ℕ → List ℕ → Bool
 marksFound notes (Place row column digit) mask cells = noneMissingInTurn notes digit mask cells
 marksFound notes (Erase row column) mask cells = true

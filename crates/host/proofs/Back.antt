@@ -1,40 +1,26 @@
 -- What is left of a host's board after undo and redo: its own digits, notes, status and counts afterwards, and all else as it came.
 -- Assumes nothing.
-use Prim.Native.Nat.{ℕ, _≤_}
-use mathlib.Core.Path.{_≡_, sym, ap, _∙_}
+use mathlib.Core.Path.{_≡_, ap, _∙_}
 use mathlib.Core.Bool.{false}
-use mathlib.Core.List.{List, []}
+use mathlib.Core.List.{[]}
 use lib.Dec.{eqb}
-use Rattle.sudoku.specs.Tests.{first, bit}
+use Rattle.sudoku.specs.Tests.{bit}
 use Rattle.sudoku.specs.Grid.{cellOf}
 use Rattle.puzzle.specs.Refusals.{accepted}
 use Rattle.journal.specs.declared.Slot.{Slot}
 use Rattle.journal.specs.declared.Counts.{Counts}
-use Rattle.journal.specs.Limits.{maxMoves}
 use Rattle.journal.specs.Counts.{counts, takenBack, retaken}
 use Rattle.journal.specs.State.{State, takeBack, performAgain}
 use Rattle.journal.specs.Slots.{moveOf, digitChange}
 use Rattle.board.specs.Board.{stateOf, countsOf, moved}
 use Rattle.board.specs.Open.{answer}
 use Rattle.play.specs.Parts.{parts}
-use Rattle.play.specs.Play.{undoTests, undone, redoTests, redone}
-use Rattle.play.proofs.Accepted.{lent-passed}
+use Rattle.play.specs.Play.{undone, redone}
 use Rattle.back.specs.Halves.{digitBack, digitAgain, struckCells, marksBack, marksAgain}
 use Rattle.back.proofs.Parts.{back-parts, again-parts}
 use Rattle.host.specs.declared.HostBoard.{HostBoard}
-use Rattle.host.specs.declared.HostAnswer.{HostAnswer}
 use Rattle.host.specs.Host.{flagsIn, madeIn, boardIn, flagsOf, hostOf, answered}
 use Rattle.host.proofs.Kept.{answered-made, left-of}
-
-module _ (h : HostBoard) (journal : List ℕ) where
-  -- an accepted call's board counts no more moves than a journal holds
-  pub undo-counted : first (undoTests (boardIn h) journal) ≡ 0 → madeIn h ≤ maxMoves
-  unfolding undoTests boardIn
-  undo-counted p = lent-passed (boardIn h) journal _ p .counts .made
-
-  pub redo-counted : first (redoTests (boardIn h) journal) ≡ 0 → madeIn h ≤ maxMoves
-  unfolding redoTests boardIn
-  redo-counted p = lent-passed (boardIn h) journal _ p .counts .made
 
 module _ (h : HostBoard) (slot : Slot) (f : flagsOf (flagsIn (h .given)) ≡ h .given) where
   pub undo-left :

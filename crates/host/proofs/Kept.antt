@@ -9,7 +9,7 @@ use borrow.Author.Tests.{leb-true, ne-eqb}
 use lib.Dec.{leb, eqb}
 use lib.ListN.{length, getD}
 use lib.Seq.{ext-getD}
-use Rattle.sudoku.specs.Tests.{pick, both, bit, every, listed}
+use Rattle.sudoku.specs.Tests.{Test, pick, bit, first, every}
 use Rattle.sudoku.specs.Grid.{at}
 use Rattle.sudoku.proofs.Walks.{by-test, pick-false, both-right, every-at}
 use Rattle.sudoku.proofs.Listed.{length-listed, listed-at}
@@ -20,6 +20,8 @@ use Rattle.board.specs.declared.Board.{Board}
 use Rattle.board.specs.Board.{boardOf, moved}
 use Rattle.board.specs.Open.{answer}
 use Rattle.play.specs.Parts.{parts}
+use Rattle.play.specs.Play.{lentTests}
+use Rattle.play.proofs.Accepted.{lent-passed}
 use Rattle.host.specs.declared.HostBoard.{HostBoard}
 use Rattle.host.specs.Host.{flagValue, hasFlags, flagsIn, madeIn, boardIn, flagsOf, hostOf, opened, answered}
 
@@ -52,6 +54,11 @@ module _ (g : List ℕ) (n : length g ≡ 81) (f : every (flagValue g) 81 1 ≡ 
       ext-getD 0 (flagsOf (flagsIn g)) g (l ∙ sym n) (λ i h. kept-at i (omega (arith, l, h)))
 
 -- a board that counts no more moves than a journal holds has flags alone
+-- an accepted call's board counts no more moves than a journal holds, whatever the call tests after 1 and 2
+pub lent-counted : (h : HostBoard) (journal : List ℕ) (ts : List Test) → first (lentTests (boardIn h) journal ts) ≡ 0 → madeIn h ≤ maxMoves
+unfolding boardIn
+lent-counted h journal ts p = lent-passed (boardIn h) journal ts p .counts .made
+
 pub counted-has : (h : HostBoard) → madeIn h ≤ maxMoves → hasFlags h ≡ true
 unfolding madeIn
 counted-has h l =

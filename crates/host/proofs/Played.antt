@@ -1,34 +1,25 @@
 -- What is left of a host's board after a move: its own digits, notes, status and counts after the move, and all else as it came.
 -- Assumes nothing.
-use Prim.Native.Nat.{ℕ, _≤_}
-use mathlib.Core.Path.{_≡_, sym, ap, _∙_}
+use Prim.Native.Nat.{ℕ}
+use mathlib.Core.Path.{_≡_, ap, _∙_}
 use mathlib.Core.Bool.{false}
-use mathlib.Core.List.{List, [], _∷_, _++_}
+use mathlib.Core.List.{List, []}
 use lib.Dec.{eqb}
-use Rattle.sudoku.specs.Tests.{_⇒_, first, bit}
+use Rattle.sudoku.specs.Tests.{bit}
 use Rattle.puzzle.specs.Refusals.{accepted}
 use Rattle.journal.specs.declared.Move.{Move}
 use Rattle.journal.specs.declared.Counts.{Counts}
-use Rattle.journal.specs.Limits.{maxMoves}
 use Rattle.journal.specs.Counts.{counts, recorded}
 use Rattle.journal.specs.State.{State, perform}
-use Rattle.board.specs.declared.Board.{Board}
 use Rattle.board.specs.Board.{stateOf, countsOf, moved}
 use Rattle.play.specs.Parts.{parts}
-use Rattle.play.specs.Play.{moveTests, callTests, recordMove}
+use Rattle.play.specs.Play.{recordMove}
 use Rattle.play.proofs.Parts.{perform-parts}
-use Rattle.play.proofs.Accepted.{lent-passed}
 use Rattle.host.specs.declared.HostBoard.{HostBoard}
-use Rattle.host.specs.declared.HostAnswer.{HostAnswer}
 use Rattle.host.specs.Host.{flagsIn, madeIn, boardIn, flagsOf, hostOf, answered}
 use Rattle.host.proofs.Kept.{answered-made, left-of}
 
 module _ (h : HostBoard) (journal : List ℕ) (m : Move) where
-  -- an accepted move's board counts no more moves than a journal holds
-  pub play-counted : first (callTests (boardIn h) journal m) ≡ 0 → madeIn h ≤ maxMoves
-  unfolding callTests boardIn
-  play-counted p = lent-passed (boardIn h) journal (moveTests (stateOf (boardIn h)) m ++ ((eqb (h .standing) maxMoves ⇒ 15) ∷ [])) p .counts .made
-
   pub play-left : flagsOf (flagsIn (h .given)) ≡ h .given
       → record {
         refusal = accepted;

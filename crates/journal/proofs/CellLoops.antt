@@ -2,7 +2,7 @@
 -- Assumes nothing.
 use Prim.Native.Nat.{ℕ, zero, suc, _+_, _-_, _*_, _/_, _%_, _≤_, _<_, _^_}
 use mathlib.Core.Path.{_≡_, refl, sym, ap, _∙_}
-use mathlib.Core.Bool.{Bool, true, false, not, _&&_}
+use mathlib.Core.Bool.{Bool, true, false, not, _&&_, Bool·not-not}
 use mathlib.Core.List.{List, [], _∷_}
 use native.Mathlib.Nat.{sub-zero, lt-of-lt-of-le, le-of-suc-le-suc, not-suc-le-zero}
 use native.Mathlib.Numerals.{add-one}
@@ -104,10 +104,6 @@ unfolding bit pick
 times-bit true p = omega arith
 times-bit false p = omega arith
 
-not-not : (b : Bool) → not (not b) ≡ b
-not-not true = refl
-not-not false = refl
-
 module _ (n d : ℕ) where
   pub or-mark : (b : Bool) → bitOr n (pick b (powerOf d) 0) ≡ pick b (withMark n d) n
   unfolding pick
@@ -121,7 +117,7 @@ module _ (n d : ℕ) where
 
   pub lacks-mark : (b : Bool) → eqb (bitAnd n (pick b (powerOf d) 0)) 0 ≡ either (not b) (lacks d n)
   unfolding pick either lacks
-  lacks-mark true = sym (not-not (eqb (bitAnd n (powerOf d)) 0)) ∙ ap not (power-tests n d)
+  lacks-mark true = sym (Bool·not-not (eqb (bitAnd n (powerOf d)) 0)) ∙ ap not (power-tests n d)
   lacks-mark false = ap (λ (k : ℕ). eqb k 0) (and-zero-r n)
 
   pub has-mark : (b : Bool) → eqb (bitAnd n (pick b (powerOf d) 0)) (pick b (powerOf d) 0) ≡ either (not b) (notMissing d n)

@@ -9,7 +9,7 @@ use Rattle.sudoku.specs.Grid.{inRange, at}
 use Rattle.note.specs.Note.{contains}
 use Rattle.journal.specs.State.{lowest, writeAt, strikeAt}
 
--- each of the cells whose bit is set in the mask notMissing its note tested when its turn comes, and is then changed
+-- each of the cells whose bit is set in the mask has its note tested when its turn comes, and is then changed
 unfoldable pub inTurn : (List ℕ → ℕ → List ℕ) → (ℕ → Bool) → List ℕ → ℕ → List ℕ → Bool
 inTurn change test notes mask [] = true
 inTurn change test notes mask (cell ∷ cells) =

@@ -8,7 +8,7 @@ use native.Mathlib.Omega.{arith}
 use borrow.Author.Tests.{eqb-true, eqb-false, leb-true, leb-false, eq-eqb, ne-eqb, not-false}
 use lib.Dec.{leb, eqb}
 use lib.ListN.{length, take, drop}
-use Rattle.sudoku.specs.Tests.{Test, _⇒_, first, pick, both}
+use Rattle.sudoku.specs.Tests.{Test, _⇒_, first}
 use Rattle.sudoku.proofs.Walks.{passed, pick-true, pick-false, both-left, both-right}
 use Rattle.puzzle.specs.Refusals.{refusal, accepted}
 use Rattle.journal.specs.declared.Move.{Move}

@@ -9,8 +9,8 @@ use Rattle.play.specs.Play.{Played, lentBy, lentTests, callTests, recordMove}
 use Rattle.play.proofs.Parts.{slot-parts}
 use Rattle.play.proofs.Accepted.{play-refused, play-made, play-room}
 use Rattle.host.specs.Host.{hasFlags, madeIn, boardIn, answered}
-use Rattle.host.proofs.Kept.{flags-kept, counted-flags, answered-refused}
-use Rattle.host.proofs.Played.{play-counted, play-left}
+use Rattle.host.proofs.Kept.{flags-kept, lent-counted, counted-flags, answered-refused}
+use Rattle.host.proofs.Played.{play-left}
 use borrow.Author.Needs.{needs}
 use Rattle.host.proofs.calls.play.Statement.{statement}
 use Rattle.host.proofs.calls.play.Tie as tie
@@ -69,7 +69,7 @@ returns-2 c =
     let n : length (a .board .given) ≡ 81 = search (needs, c .before .before .before .before .before .before .before .before .before .before .before .before .before .before .before .before .before .before .before .before .before .before .before .before .before .before .before .before .before .before .before .before .before .good) in
     let p = play-made (boardIn (a .board)) (a .journal .now) (a .m) _ e (c .before .before .before .before .before .before .before .before .before .before .before .before .before .before .before .before .before .if1 .left) in
     let room = play-room (boardIn (a .board)) (a .journal .now) (a .m) _ e (c .before .before .before .before .before .before .before .before .before .before .before .before .before .before .before .before .before .if1 .left) in
-    let kept = flags-kept (a .board .given) n (counted-flags (a .board) (play-counted (a .board) (a .journal .now) (a .m) (sym e ∙ c .before .before .before .before .before .before .before .before .before .before .before .before .before .before .before .before .before .if1 .left))) in (
+    let kept = flags-kept (a .board .given) n (counted-flags (a .board) (lent-counted (a .board) (a .journal .now) _ (sym e ∙ c .before .before .before .before .before .before .before .before .before .before .before .before .before .before .before .before .before .if1 .left))) in (
       rw (c .before .before .before .before .before .before .before .before .before .before .before .before .before .before .before .before .before .before .before .before .before .before .before .before .before .before .before .before .before .before .before .accepted .ensures, c .before .before .before .flag-of .ensures, c .before .before .before .before .perform-notes .ensures, c .before .before .before .before .before .before .perform-digit .ensures .0, c .before .before .before .before .before .before .perform-digit .ensures .1, c .before .before .before .before .before .before .before .before .after-record .ensures, c .before .before .before .before .before .before .before .before .before .before .before .before .before .before .before .before .before .before .before .before .before .before .before .before .made-in .ensures)
           (play-left (a .board) (a .journal .now) (a .m) kept ∙ ap (λ (x : Played). answered (a .board) (x .answer)) p),
       (rw (c .before .before .before .before .before .before .before .before .before .before .before .before .before .slot-of .ensures, slot-parts (stateOf (boardIn (a .board))) (a .m)) at (c .before .before .before .before .before .before .before .before .before .before .before .write-slot .ensures)) ∙ laid-over _ _ _ room ∙ ap (λ (x : Played). x .journal) p,

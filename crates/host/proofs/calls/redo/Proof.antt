@@ -7,14 +7,14 @@ use native.Mathlib.Omega.{arith}
 use lib.ListN.{length}
 use Rattle.journal.specs.Slots.{slotAt}
 use Rattle.board.specs.Board.{stateOf, isBoard}
-use Rattle.play.specs.Play.{lentBy, canRetake}
+use Rattle.play.specs.Play.{lentBy, redoTests, canRetake}
 use Rattle.play.proofs.Accepted.{redo-made}
 use Rattle.back.specs.Halves.{redoBefore}
 use Rattle.back.proofs.Parts.{next-standing}
 use Rattle.back.proofs.Before.{retake-parts, redo-stopped, redo-unfit, redo-fit, redo-more}
 use Rattle.host.specs.Host.{hasFlags, madeIn, boardIn, answered}
-use Rattle.host.proofs.Kept.{flags-kept, counted-flags, answered-refused}
-use Rattle.host.proofs.Back.{redo-counted, redo-left}
+use Rattle.host.proofs.Kept.{flags-kept, lent-counted, counted-flags, answered-refused}
+use Rattle.host.proofs.Back.{redo-left}
 use borrow.Author.Needs.{needs}
 use Rattle.host.proofs.calls.redo.Statement.{statement}
 use Rattle.host.proofs.calls.redo.Tie as tie
@@ -89,7 +89,7 @@ flag-of-requires : tie.Need-flag-of-requires
 flag-of-requires c κs = search needs
 
 returns-3 : tie.Need-returns-3
-unfolding redoBefore lentBy isBoard boardIn madeIn hasFlags stateOf
+unfolding redoTests redoBefore lentBy isBoard boardIn madeIn hasFlags stateOf
 returns-3 c =
     let a = c .before .before .before .before .before .before .before .before .before .before .before .before .before .before .before .before .before .before .before .before .before .before .before .before .before .before .before .before .before .before .before .before .before .before .before .before .args in
     let e = rw (c .before .before .before .before .before .before .before .before .before .before .before .before .before .before .before .before .before .before .before .before .before .before .before .before .before .before .before .made-in .ensures, c .before .before .before .before .before .before .before .before .before .before .before .before .before .before .before .before .before .before .before .before .before .before .before .before .before .before .before .before .before .before .flags-in .ensures) at (c .before .before .before .before .before .before .before .before .before .before .before .before .before .before .before .before .before .before .before .before .before .number-of-redo .ensures .0) in
@@ -98,7 +98,7 @@ returns-3 c =
     rw (c .before .before .before .before .before .before .before .before .is-sound .ensures, c .before .before .before .before .before .before .before .before .before .before .before .before .before .before .digit-found .ensures, c .before .before .before .before .before .before .before .before .before .before .take-again .ensures .0, c .before .before .before .before .before .before .before .before .before .before .before .before .move-of .ensures, c .before .before .before .before .before .before .before .before .before .before .before .before .before .before .before .before .before .struck-cells .ensures, c .before .before .before .before .before .before .before .before .before .before .before .before .before .before .before .before .before .before .slot-at .ensures, nth, c .before .before .before .before .before .before .before .before .before .before .before .before .before .before .before .before .before .before .before .before .before .before .before .before .before .before .before .before .before .before .flags-in .ensures) (sym (retake-parts (stateOf (boardIn (a .board))) (slotAt (a .journal .now) (a .board .standing + 1)))) in
     let n : length (a .board .given) ≡ 81 = search (needs, c .before .before .before .before .before .before .before .before .before .before .before .before .before .before .before .before .before .before .before .before .before .before .before .before .before .before .before .before .before .before .before .before .before .before .before .before .good) in
     let none = redo-fit (boardIn (a .board)) (a .journal .now) _ e (c .before .before .before .before .before .before .before .before .before .before .before .before .before .before .before .before .before .before .before .before .if1 .left) (ap not ok ∙ c .before .before .before .before .before .before .before .if2 .left) in
-    let kept = flags-kept (a .board .given) n (counted-flags (a .board) (redo-counted (a .board) (a .journal .now) none)) in
+    let kept = flags-kept (a .board .given) n (counted-flags (a .board) (lent-counted (a .board) (a .journal .now) _ none)) in
     rw (c .before .before .before .before .before .before .before .before .before .before .before .before .before .before .before .before .before .before .before .before .before .before .before .before .before .before .before .before .before .before .before .before .before .before .accepted .ensures, c .before .before .before .flag-of .ensures, c .before .before .before .before .before .before .before .before .before .before .take-again .ensures .1, c .before .before .before .before .before .before .before .before .before .before .before .before .move-of .ensures, c .before .before .before .before .put-again .ensures .0, c .before .before .before .before .put-again .ensures .1, c .before .before .before .before .before .before .after-retake .ensures, c .before .before .before .before .before .before .before .before .before .before .before .before .before .before .before .before .before .struck-cells .ensures, c .before .before .before .before .before .before .before .before .before .before .before .before .before .before .before .before .before .before .slot-at .ensures, nth, c .before .before .before .before .before .before .before .before .before .before .before .before .before .before .before .before .before .before .before .before .before .before .before .before .before .before .before .made-in .ensures)
     (redo-left (a .board) (slotAt (a .journal .now) (a .board .standing + 1)) kept ∙ ap (answered (a .board)) (redo-made (boardIn (a .board)) (a .journal .now) none))
 

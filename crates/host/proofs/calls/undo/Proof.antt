@@ -6,13 +6,13 @@ use native.Mathlib.Omega.{arith}
 use lib.ListN.{length}
 use Rattle.journal.specs.Slots.{slotAt}
 use Rattle.board.specs.Board.{stateOf, isBoard}
-use Rattle.play.specs.Play.{lentBy, canTakeBack}
+use Rattle.play.specs.Play.{lentBy, undoTests, canTakeBack}
 use Rattle.play.proofs.Accepted.{undo-made}
 use Rattle.back.specs.Halves.{undoBefore}
 use Rattle.back.proofs.Before.{take-back-parts, undo-stopped, undo-unfit, undo-fit}
 use Rattle.host.specs.Host.{hasFlags, madeIn, boardIn, answered}
-use Rattle.host.proofs.Kept.{flags-kept, counted-flags, answered-refused}
-use Rattle.host.proofs.Back.{undo-counted, undo-left}
+use Rattle.host.proofs.Kept.{flags-kept, lent-counted, counted-flags, answered-refused}
+use Rattle.host.proofs.Back.{undo-left}
 use borrow.Author.Needs.{needs}
 use Rattle.host.proofs.calls.undo.Statement.{statement}
 use Rattle.host.proofs.calls.undo.Tie as tie
@@ -83,7 +83,7 @@ flag-of-requires : tie.Need-flag-of-requires
 flag-of-requires c κs = search needs
 
 returns-3 : tie.Need-returns-3
-unfolding undoBefore lentBy isBoard boardIn madeIn hasFlags stateOf
+unfolding undoTests undoBefore lentBy isBoard boardIn madeIn hasFlags stateOf
 returns-3 c =
     let a = c .before .before .before .before .before .before .before .before .before .before .before .before .before .before .before .before .before .before .before .before .before .before .before .before .before .before .before .before .before .before .before .before .before .before .before .args in
     let e = rw (c .before .before .before .before .before .before .before .before .before .before .before .before .before .before .before .before .before .before .before .before .before .before .before .before .before .before .made-in .ensures, c .before .before .before .before .before .before .before .before .before .before .before .before .before .before .before .before .before .before .before .before .before .before .before .before .before .before .before .before .before .flags-in .ensures) at (c .before .before .before .before .before .before .before .before .before .before .before .before .before .before .before .before .before .before .before .before .number-of-undo .ensures .0) in
@@ -91,7 +91,7 @@ returns-3 c =
     rw (c .before .before .before .before .before .before .before .before .is-sound .ensures, c .before .before .before .before .before .before .before .before .before .before .before .before .before .before .digit-left .ensures, c .before .before .before .before .before .before .before .before .before .before .give-back .ensures .0, c .before .before .before .before .before .before .before .before .before .before .before .before .move-of .ensures, c .before .before .before .before .before .before .before .before .before .before .before .before .before .before .before .before .before .struck-cells .ensures, c .before .before .before .before .before .before .before .before .before .before .before .before .before .before .before .before .before .before .slot-at .ensures, c .before .before .before .before .before .before .before .before .before .before .before .before .before .before .before .before .before .before .before .before .before .before .before .before .before .before .before .before .before .flags-in .ensures) (sym (take-back-parts (stateOf (boardIn (a .board))) (slotAt (a .journal .now) (a .board .standing)))) in
     let n : length (a .board .given) ≡ 81 = search (needs, c .before .before .before .before .before .before .before .before .before .before .before .before .before .before .before .before .before .before .before .before .before .before .before .before .before .before .before .before .before .before .before .before .before .before .before .good) in
     let none = undo-fit (boardIn (a .board)) (a .journal .now) _ e (c .before .before .before .before .before .before .before .before .before .before .before .before .before .before .before .before .before .before .before .if1 .left) (ap not ok ∙ c .before .before .before .before .before .before .before .if2 .left) in
-    let kept = flags-kept (a .board .given) n (counted-flags (a .board) (undo-counted (a .board) (a .journal .now) none)) in
+    let kept = flags-kept (a .board .given) n (counted-flags (a .board) (lent-counted (a .board) (a .journal .now) _ none)) in
     rw (c .before .before .before .before .before .before .before .before .before .before .before .before .before .before .before .before .before .before .before .before .before .before .before .before .before .before .before .before .before .before .before .before .before .accepted .ensures, c .before .before .before .flag-of .ensures, c .before .before .before .before .before .before .before .before .before .before .give-back .ensures .1, c .before .before .before .before .before .before .before .before .before .before .before .before .move-of .ensures, c .before .before .before .before .put-back .ensures .0, c .before .before .before .before .put-back .ensures .1, c .before .before .before .before .before .before .after-take-back .ensures, c .before .before .before .before .before .before .before .before .before .before .before .before .before .before .before .before .before .struck-cells .ensures, c .before .before .before .before .before .before .before .before .before .before .before .before .before .before .before .before .before .before .slot-at .ensures, c .before .before .before .before .before .before .before .before .before .before .before .before .before .before .before .before .before .before .before .before .before .before .before .before .before .before .made-in .ensures)
     (undo-left (a .board) (slotAt (a .journal .now) (a .board .standing)) kept ∙ ap (answered (a .board)) (undo-made (boardIn (a .board)) (a .journal .now) none))
 
