@@ -2,12 +2,14 @@
 -- Assumes nothing.
 use Prim.Native.Nat.{ℕ, _+_, _-_, _≤_, _<_}
 use mathlib.Core.Path.{_≡_, refl, sym, ap, _∙_}
-use mathlib.Core.Bool.{Bool, true, false}
+use mathlib.Core.Bool.{Bool, true, not}
 use mathlib.Core.List.{List}
 use native.Mathlib.Omega.{arith}
+use lib.Dec.{eqb}
 use lib.ListN.{getD}
 use Rattle.sudoku.specs.Tests.{both, every}
 use Rattle.sudoku.specs.Grid.{at}
+use Rattle.puzzle.specs.Givens.{isSet}
 use Rattle.sudoku.proofs.Walks.{both-assoc, both-second, every-step, every-all}
 
 back-one : (i : ℕ) → i + 1 - 1 ≡ i
@@ -18,8 +20,9 @@ pub at-next : (l : List ℕ) (i : ℕ) → at l (i + 1) ≡ getD l i 0
 unfolding at
 at-next l i = ap (λ (k : ℕ). getD l k 0) (back-one i)
 
-pub flag-next : (l : List Bool) (i : ℕ) → getD l (i + 1 - 1) false ≡ getD l i false
-flag-next l i = ap (λ (k : ℕ). getD l k false) (back-one i)
+pub set-next : (l : List ℕ) (i : ℕ) → isSet l (i + 1) ≡ not (eqb (getD l i 0) 0)
+unfolding isSet
+set-next l i = ap (λ (x : ℕ). not (eqb x 0)) (at-next l i)
 
 -- what a turn does: ok is what was found of the cells before, r of this cell too
 pub turn :

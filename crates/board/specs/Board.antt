@@ -1,14 +1,15 @@
 -- The board value and its test, number 2.
 -- Assumes nothing.
-use Prim.Native.Nat.{ℕ, _-_}
-use mathlib.Core.Bool.{Bool, false, not}
+use Prim.Native.Nat.{ℕ}
+use mathlib.Core.Bool.{Bool, not}
 use mathlib.Core.List.{List}
 use lib.Dec.{leb, eqb}
-use lib.ListN.{getD, replicate}
+use lib.ListN.{replicate}
 use Rattle.sudoku.specs.Tests.{both, either, every}
 use Rattle.sudoku.specs.Grid.{inRange, at}
 use Rattle.note.specs.Note.{isNote}
 use Rattle.puzzle.specs.declared.Given.{Given}
+use Rattle.puzzle.specs.Givens.{isSet}
 use Rattle.journal.specs.Limits.{maxMoves, maxChecks}
 use Rattle.journal.specs.declared.Counts.{Counts}
 use Rattle.journal.specs.Counts.{counts}
@@ -16,7 +17,7 @@ use Rattle.journal.specs.State.{State, opening}
 use Rattle.board.specs.declared.Board.{Board}
 
 -- a board of its parts
-abbrev pub whole : List ℕ → List Bool → List ℕ → List ℕ → Bool → ℕ → ℕ → ℕ → Board
+abbrev pub whole : List ℕ → List ℕ → List ℕ → List ℕ → ℕ → ℕ → ℕ → ℕ → Board
 whole digits given notes solution solved made standing checks =
     record {
       digits = digits;
@@ -54,10 +55,10 @@ boardOf s solution c checks =
 unfoldable pub moved : Board → State → Counts → Board
 moved b s c = boardOf s (b .solution) c (b .checks)
 
--- of a cell of the board value: no digit above 9, no given with digit 0
-unfoldable pub digitValue : List ℕ → List Bool → ℕ → Bool
+-- of a cell of the board value: no digit above 9, no flag other than 0 and 1, no given with digit 0
+unfoldable pub digitValue : List ℕ → List ℕ → ℕ → Bool
 digitValue digits given cell =
-    both (leb (at digits cell) 9) (either (not (getD given (cell - 1) false)) (not (eqb (at digits cell) 0)))
+    both (leb (at digits cell) 9) (both (leb (at given cell) 1) (leb (at given cell) (at digits cell)))
 
 -- no note bit other than 1 to 9
 unfoldable pub noteValue : List ℕ → ℕ → Bool
@@ -67,14 +68,15 @@ noteValue notes cell = isNote (at notes cell)
 unfoldable pub solutionValue : List ℕ → ℕ → Bool
 solutionValue solution cell = inRange (at solution cell)
 
--- number 2 speaks of board values for which this does not hold: made above 1,024, standing above made, checks above 256, or a cell's values
+-- number 2 speaks of board values for which this does not hold: made above 1,024, standing above made, checks above 256, a status other than 0 and 1, or a cell's values
 unfoldable pub isBoard : Board → Bool
 isBoard b =
     both (leb (b .made) maxMoves)
     (both (leb (b .standing) (b .made))
     (both (leb (b .checks) maxChecks)
+    (both (leb (b .solved) 1)
     (both (every (digitValue (b .digits) (b .given)) 81 1)
-    (both (every (noteValue (b .notes)) 81 1) (every (solutionValue (b .solution)) 81 1)))))
+    (both (every (noteValue (b .notes)) 81 1) (every (solutionValue (b .solution)) 81 1))))))
 
 -- the fresh board of givens and their solution
 unfoldable pub fresh : List Given → List ℕ → Board
@@ -85,10 +87,10 @@ unfoldable pub zeroBoard : Board
 zeroBoard =
     record {
       digits = replicate 81 0;
-      given = replicate 81 false;
+      given = replicate 81 0;
       notes = replicate 81 0;
       solution = replicate 81 0;
-      solved = false;
+      solved = 0;
       made = 0;
       standing = 0;
       checks = 0;

@@ -5,16 +5,17 @@ pub mod cell;
 pub mod open;
 pub mod value;
 
-// A board by value, with flat arrays of 81 and open fields. It goes into a call and comes back in its answer.
+// A board by value, with flat arrays of 81 and open fields. It goes into a call and comes back in its answer. Its flags are bytes, so that a host passes it as it is: number 2 speaks of flags other than 0 and 1.
 #[repr(C)]
 pub struct Board {
     // 0 means none
     pub digits: [u8; 81],
-    pub given: [bool; 81],
+    // flags are 0 or 1
+    pub given: [u8; 81],
     // kept notes: mark d is the bit of value 2 to the power d
     pub notes: [u16; 81],
     pub solution: [u8; 81],
-    pub solved: bool,
+    pub solved: u8,
     pub made: usize,
     pub standing: usize,
     pub checks: usize,

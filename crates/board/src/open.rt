@@ -8,9 +8,9 @@ use puzzle::answer::accepted;
 use puzzle::answer::refusal;
 use puzzle::given_bytes::mark_givens;
 use puzzle::given_bytes::put_givens;
-use puzzle::proof::flat;
-use puzzle::proof::rows_of;
-use puzzle::proof::well_posed;
+use puzzle::vouch::flat;
+use puzzle::vouch::rows_of;
+use puzzle::vouch::well_posed;
 use sudoku::CELLS;
 ghost use mathlib.Core.Path.{_≡_};
 ghost use lib.Dec.{eqb};
@@ -40,10 +40,10 @@ pub fn zero_board() -> Board
 {
     Board {
         digits: [0u8; 81],
-        given: [false; 81],
+        given: [0u8; 81],
         notes: [0u16; 81],
         solution: [0u8; 81],
-        solved: false,
+        solved: 0,
         made: 0,
         standing: 0,
         checks: 0,
@@ -62,7 +62,7 @@ pub fn fresh(bytes: &[u8], layout: Layout, count: usize, solution: &[u8]) -> Boa
         given: given,
         notes: [0u16; 81],
         solution: right,
-        solved: false,
+        solved: 0,
         made: 0,
         standing: 0,
         checks: 0,

@@ -3,30 +3,21 @@ use crate::Board;
 use journal::MAX_CHECKS;
 use journal::MAX_MOVES;
 ghost use mathlib.Core.Path.{_≡_};
-ghost use mathlib.Core.Bool.{false, not};
+ghost use mathlib.Core.Bool.{not};
 ghost use lib.Dec.{leb, eqb};
 ghost use Rattle.sudoku.specs.Tests.{both, either, every};
 ghost use Rattle.sudoku.specs.Grid.{inRange};
 ghost use Rattle.note.specs.Note.{isNote};
 ghost use Rattle.board.specs.Board.{whole, isBoard, digitValue, noteValue, solutionValue};
 
-// What was found so far, and a cell's digit: none above 9, and no given without one.
-fn digit_step(ok: bool, digit: u8, given: bool) -> bool
-    ensures { λ r. ⌜ r ≡ both ok (both (leb digit 9) (either (not given) (not (eqb digit 0)))) ⌝ }
+// What was found so far, and a cell's digit and flag: no digit above 9, no flag above 1, and no given without a digit.
+fn digit_step(ok: bool, digit: u8, given: u8) -> bool
+    ensures { λ r. ⌜ r ≡ both ok (both (leb digit 9) (both (leb given 1) (leb given digit))) ⌝ }
 {
-    if digit > 9 {
-        return false;
-    }
-    if given {
-        if digit == 0 {
-            return false;
-        }
-        return ok;
-    }
-    ok
+    ok & (digit <= 9) & (given <= 1) & (given <= digit)
 }
 
-fn digit_values<'a>(digits: &'a [u8; 81], given: &'a [bool; 81]) -> bool
+fn digit_values<'a>(digits: &'a [u8; 81], given: &'a [u8; 81]) -> bool
     ensures { λ r. ⌜ r ≡ every (digitValue (now (digits .entry)) (now (given .entry))) 81 1 ⌝ }
 {
     let mut ok = true;
@@ -80,17 +71,18 @@ fn solution_values(solution: &[u8; 81]) -> bool
     ok
 }
 
-// Whether number 2 does not speak of a board value of these parts. It does not ask whether the board is solved.
+// Whether number 2 does not speak of a board value of these parts.
 pub fn is_value<'a>(
     digits: &'a [u8; 81],
-    given: &'a [bool; 81],
+    given: &'a [u8; 81],
     notes: &'a [u16; 81],
     solution: &'a [u8; 81],
+    solved: u8,
     made: usize,
     standing: usize,
     checks: usize,
 ) -> bool
-    ensures { λ r. ⌜ r ≡ isBoard (whole (now (digits .entry)) (now (given .entry)) (now (notes .entry)) (now (solution .entry)) false made standing checks) ⌝ }
+    ensures { λ r. ⌜ r ≡ isBoard (whole (now (digits .entry)) (now (given .entry)) (now (notes .entry)) (now (solution .entry)) solved made standing checks) ⌝ }
 {
     if made > MAX_MOVES {
         return false;
@@ -99,6 +91,9 @@ pub fn is_value<'a>(
         return false;
     }
     if checks > MAX_CHECKS {
+        return false;
+    }
+    if solved > 1 {
         return false;
     }
     if !digit_values(digits, given) {
@@ -114,6 +109,7 @@ pub fn is_value<'a>(
 pub fn is_board(board: Board) -> bool
     ensures { λ r. ⌜ r ≡ isBoard board ⌝ }
 {
+    let solved = board.solved;
     let made = board.made;
     let standing = board.standing;
     let checks = board.checks;
@@ -122,6 +118,7 @@ pub fn is_board(board: Board) -> bool
         &board.given,
         &board.notes,
         &board.solution,
+        solved,
         made,
         standing,
         checks,

@@ -1,13 +1,13 @@
 // What each command does: one call of the library, and what it answers shown.
 use crate::Numbers;
-use back::redo;
-use back::undo;
+use undo::redo;
+use undo::undo;
 use board::Answer;
 use board::Board;
 use files::disk::save;
 use files::load::load;
 use journal::slots::slot_at;
-use moves::read::reading;
+use readings::read::reading;
 use play::checks::check;
 use play::moves::erase;
 use play::moves::place;
@@ -29,8 +29,8 @@ use puzzle::digit_at;
 use record::write::write;
 use sudoku::cell_of;
 use texts::Command;
-use texts::orders::NO_NUMBER;
-use texts::orders::value;
+use texts::commands::NO_NUMBER;
+use texts::commands::value;
 use texts::part;
 
 // The most bytes of a record.

@@ -18,7 +18,7 @@ pub sound-check-for : (s : State) (checks : List ℕ) (n : ℕ) → isSoundCheck
 unfolding isSoundCheck soundCheckFor isGiven givensOnly
 sound-check-for s checks n = refl
 
-module _ (given : List Bool) (checks : List ℕ) (n : ℕ) where
+module _ (given : List ℕ) (checks : List ℕ) (n : ℕ) where
   -- what the six bytes say
   pub check-read : soundStored given (two (getD checks (checkStart n) 0) (getD checks (checkStart n + 1) 0)) (getD checks (checkStart n + 2) 0)
       (getD checks (checkStart n + 3) 0) (getD checks (checkStart n + 4) 0) (getD checks (checkStart n + 5) 0)

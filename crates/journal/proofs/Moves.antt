@@ -8,7 +8,7 @@ use native.Mathlib.Omega.{arith}
 use borrow.Author.Tests.{eqb-true, eqb-false, eq-eqb, ne-eqb, le-leb, lt-ltb, leb-true, leb-false, not-true, not-false}
 use lib.Dec.{eqb, leb, ltb}
 use lib.ListN.{length, getD, replicate, getD-replicate, List·getD-eq-default}
-use Rattle.sudoku.specs.Tests.{pick, both, either}
+use Rattle.sudoku.specs.Tests.{pick, both, either, bit}
 use Rattle.sudoku.specs.Grid.{inRange, onGrid, cellOf, isCell, at, put, peersOf}
 use Rattle.sudoku.proofs.Walks.{by-test, not-both-ways, pick-true, pick-false, both-true, both-right, both-false-left, both-false-right, either-left, either-right, every-at}
 use Rattle.sudoku.proofs.Grid.{cell-from, cell-to, is-cell, cell-of-is-cell, range-from, range-to, in-range, at-put, at-put-by, put-put, put-at, length-put, peers-length}
@@ -16,8 +16,9 @@ use Rattle.sudoku.proofs.Each.{Each}
 use Rattle.note.specs.Note.{contains, isNote}
 use Rattle.note.proofs.Note.{contains-digit, isNote-zero}
 use Rattle.puzzle.specs.declared.Given.{Given}
-use Rattle.puzzle.specs.Givens.{ascending, digitsOf}
-use Rattle.puzzle.proofs.Givens.{OnGrid, Matches, Rising, rising, marked, given-at, given-digit, free-digit, fresh-not-full, length-digits-of, length-given-cells}
+use Rattle.puzzle.specs.Givens.{ascending, digitsOf, isOn, isSet}
+use Rattle.puzzle.proofs.Puzzle.{settled-fresh}
+use Rattle.puzzle.proofs.Givens.{OnGrid, Matches, Rising, rising, marked, given-at, flag-small, given-digit, free-digit, fresh-not-full, length-digits-of, length-given-cells}
 use Rattle.puzzle.specs.Puzzle.{holdsDigit, isFull, isConsistent, settled}
 use Rattle.journal.specs.declared.Move.{Move}
 use Rattle.journal.specs.declared.Move.the-variants.{Place, Erase, WriteMark, StrikeMark}
@@ -30,12 +31,13 @@ use Rattle.journal.proofs.NoteCells.{isIn, Within, AreNotes, masked-in,
 -- what holds of every state played from its opening: 81 cells, digits 0 to 9, a digit in each given, notes of the marks 1 to 9, and the status that the digits have
 pub record Fit (s : State) : Type 0 where
   pub given-81 : length (s .given) ≡ 81
+  pub flags : (cell : ℕ) → isCell cell ≡ true → at (s .given) cell ≤ 1
   pub digits-81 : length (s .digits) ≡ 81
   pub notes-81 : length (s .notes) ≡ 81
   pub digits : (cell : ℕ) → isCell cell ≡ true → digitAt s cell ≤ 9
   pub givens : (cell : ℕ) → isCell cell ≡ true → isGiven s cell ≡ true → digitAt s cell ≡ 0 → ⊥
   pub notes : (cell : ℕ) → isCell cell ≡ true → isNote (noteAt s cell) ≡ true
-  pub status : s .solved ≡ both (isFull (s .digits)) (isConsistent (s .digits))
+  pub status : s .solved ≡ bit (both (isFull (s .digits)) (isConsistent (s .digits)))
 
 -- what an accepted move finds, for each kind
 pub record PlaceAllowed (s : State) (row column digit : ℕ) : Type 0 where
@@ -87,6 +89,7 @@ module _ (s : State) (f : Fit s) where
   fit-notes notes l a =
       record {
         given-81 = f .given-81;
+        flags = f .flags;
         digits-81 = f .digits-81;
         notes-81 = l;
         digits = f .digits;
@@ -97,18 +100,19 @@ module _ (s : State) (f : Fit s) where
 
   -- so does a digit put into a cell that is no given, where the status is the digits'
   fit-put : (cell d : ℕ) → isCell cell ≡ true → isGiven s cell ≡ false → d ≤ 9
-      → (putDigit s cell d) .solved ≡ both (isFull (put (s .digits) cell d)) (isConsistent (put (s .digits) cell d)) → Fit (putDigit s cell d)
+      → (putDigit s cell d) .solved ≡ bit (both (isFull (put (s .digits) cell d)) (isConsistent (put (s .digits) cell d))) → Fit (putDigit s cell d)
   unfolding putDigit digitAt isGiven noteAt
   fit-put cell d p free u e =
       record {
         given-81 = f .given-81;
+        flags = f .flags;
         digits-81 = length-put (s .digits) cell d ∙ f .digits-81;
         notes-81 = f .notes-81;
         digits = λ n q. at-most n q;
         givens = λ n q g z.
             by-test (eqb cell n)
-            (λ t. not-both-ways (getD (s .given) (n - 1) false) g
-            (subst (λ (k : ℕ). getD (s .given) (k - 1) false ≡ false) (eqb-true cell n t) free))
+            (λ t. not-both-ways (isSet (s .given) n) g
+            (subst (λ (k : ℕ). isSet (s .given) k ≡ false) (eqb-true cell n t) free))
             (λ t. f .givens n q g (sym (pick-false (eqb cell n) d (at (s .digits) n) t) ∙ sym (after n q) ∙ z));
         notes = f .notes;
         status = e;
@@ -124,11 +128,15 @@ module _ (s : State) (f : Fit s) where
 
 -- ---- the status
 
+-- a flag that says no is 0
+pub flag-off : (t : ℕ) → not (eqb t 0) ≡ false → t ≡ 0
+flag-off t e = eqb-true t 0 (not-false _ e)
+
 -- a digit put into a cell of an unsolved board settles the status
-status-put : (digits : List ℕ) (d : ℕ) (t : Bool) → t ≡ false → (d ≡ 0 → ⊥) → pick (eqb d 0) t (settled digits t) ≡ both (isFull digits) (isConsistent digits)
-unfolding settled either
+status-put : (digits : List ℕ) (d : ℕ) (t : ℕ) → not (eqb t 0) ≡ false → (d ≡ 0 → ⊥)
+    → pick (eqb d 0) t (settled digits t) ≡ bit (both (isFull digits) (isConsistent digits))
 status-put digits d t e n =
-    pick-false (eqb d 0) t (settled digits t) (ne-eqb d 0 n) ∙ ap (λ (b : Bool). either b (both (isFull digits) (isConsistent digits))) e
+    pick-false (eqb d 0) t (settled digits t) (ne-eqb d 0 n) ∙ ap (settled digits) (flag-off t e) ∙ settled-fresh digits
 
 -- a board with an empty cell is not full
 pub not-full : (digits : List ℕ) (cell : ℕ) → isCell cell ≡ true → at digits cell ≡ 0 → isFull digits ≡ false
@@ -141,18 +149,19 @@ not-full digits cell p z =
     (λ t. t)
 
 -- emptying a cell of an unsolved board leaves it unsolved, and not full
-status-empty : (digits : List ℕ) (cell : ℕ) (t : Bool) → length digits ≡ 81 → isCell cell ≡ true → t ≡ false
-    → pick (eqb 0 0) t (settled (put digits cell 0) t) ≡ both (isFull (put digits cell 0)) (isConsistent (put digits cell 0))
+status-empty : (digits : List ℕ) (cell : ℕ) (t : ℕ) → length digits ≡ 81 → isCell cell ≡ true → not (eqb t 0) ≡ false
+    → pick (eqb 0 0) t (settled (put digits cell 0) t) ≡ bit (both (isFull (put digits cell 0)) (isConsistent (put digits cell 0)))
+unfolding bit
 status-empty digits cell t l p e =
     pick-true (eqb 0 0) t (settled (put digits cell 0) t) refl
-    ∙ e
-    ∙ sym (both-false-left (isFull (put digits cell 0)) (isConsistent (put digits cell 0)) (not-full (put digits cell 0) cell p (at-put digits cell 0 l p)))
+    ∙ flag-off t e
+    ∙ sym (ap bit (both-false-left (isFull (put digits cell 0)) (isConsistent (put digits cell 0)) (not-full (put digits cell 0) cell p (at-put digits cell 0 l p))))
 
 -- putting the digit before back gives the status before
-status-back : (digits : List ℕ) (d : ℕ) (t u : Bool) → t ≡ false → u ≡ false → u ≡ both (isFull digits) (isConsistent digits)
+status-back : (digits : List ℕ) (d : ℕ) (t u : ℕ) → not (eqb t 0) ≡ false → not (eqb u 0) ≡ false → u ≡ bit (both (isFull digits) (isConsistent digits))
     → pick (eqb d 0) t (settled digits t) ≡ u
 status-back digits d t u e z h =
-    by-test (eqb d 0) (λ k. pick-true (eqb d 0) t (settled digits t) k ∙ e ∙ sym z)
+    by-test (eqb d 0) (λ k. pick-true (eqb d 0) t (settled digits t) k ∙ flag-off t e ∙ sym (flag-off u z))
     (λ k. status-put digits d t e (eqb-false d 0 k) ∙ sym h)
 
 -- ---- again, and back
@@ -168,7 +177,7 @@ performed-again s (WriteMark row column digit) f a = refl
 performed-again s (StrikeMark row column digit) f a = refl
 
 -- a move taken back in the state after it, with what its slot holds, gives the state before it
-pub taken-back : (s : State) (m : Move) → Fit s → s .solved ≡ false → Allowed s m → (perform s m) .solved ≡ false
+pub taken-back : (s : State) (m : Move) → Fit s → isOn (s .solved) ≡ false → Allowed s m → isOn (perform s m .solved) ≡ false
     → takeBack (perform s m) m (before s m) (struck s m) ≡ s
 unfolding takeBack perform before struck digitAt noteAt putDigit withNotes
 taken-back s (Place row column digit) f u a e =
@@ -193,7 +202,7 @@ taken-back s (Place row column digit) f u a e =
     solved-back =
         status-back (put (put (s .digits) (cellOf row column) digit) (cellOf row column) (at (s .digits) (cellOf row column))) (at (s .digits) (cellOf row column))
         ((perform s (Place row column digit)) .solved) (s .solved) e u
-        (f .status ∙ ap (λ (l : List ℕ). both (isFull l) (isConsistent l)) (sym digits-back))
+        (f .status ∙ ap (λ (l : List ℕ). bit (both (isFull l) (isConsistent l))) (sym digits-back))
 taken-back s (Erase row column) f u a e =
     λ j. record { given = s .given; digits = digits-back j; notes = s .notes; solved = solved-back j }
   where
@@ -204,7 +213,7 @@ taken-back s (Erase row column) f u a e =
     solved-back =
         status-back (put (put (s .digits) (cellOf row column) 0) (cellOf row column) (at (s .digits) (cellOf row column))) (at (s .digits) (cellOf row column))
         ((perform s (Erase row column)) .solved) (s .solved) e u
-        (f .status ∙ ap (λ (l : List ℕ). both (isFull l) (isConsistent l)) (sym digits-back))
+        (f .status ∙ ap (λ (l : List ℕ). bit (both (isFull l) (isConsistent l))) (sym digits-back))
 taken-back s (WriteMark row column digit) f u a e =
     ap (λ (notes : List ℕ). withNotes s notes)
     (strike-written (s .notes) (cellOf row column) digit (cell-from (cellOf row column) (cell-of-is-cell row column (a .grid)))
@@ -217,7 +226,7 @@ taken-back s (StrikeMark row column digit) f u a e =
 -- ---- what every move keeps
 
 -- a move performed in a fit, unsolved state leaves a fit state
-pub fit-perform : (s : State) (m : Move) → Fit s → s .solved ≡ false → Allowed s m → Fit (perform s m)
+pub fit-perform : (s : State) (m : Move) → Fit s → isOn (s .solved) ≡ false → Allowed s m → Fit (perform s m)
 unfolding perform putDigit
 fit-perform s (Place row column digit) f u a =
     fit-notes (putDigit s (cellOf row column) digit)
@@ -387,10 +396,11 @@ empty-note cell q = getD-replicate {A = ℕ} 81 (cell - 1) 0 0 (omega (arith, ce
 -- givens on the grid that ascend and match a solution of digits 1 to 9, fewer than 81, open a fit state
 pub fit-opening : (solution : List ℕ) (gs : List Given) → Each OnGrid gs → Each (Matches solution) gs → ascending gs ≡ true
     → ((cell : ℕ) → isCell cell ≡ true → inRange (at solution cell) ≡ true) → length gs < 81 → Fit (opening gs)
-unfolding opening isGiven digitAt noteAt
+unfolding opening isGiven digitAt noteAt bit
 fit-opening solution gs on matches up range h =
     record {
       given-81 = length-given-cells gs;
+      flags = λ cell q. flag-small gs cell on q;
       digits-81 = length-digits-of gs;
       notes-81 = refl;
       digits = λ cell q.
@@ -399,13 +409,13 @@ fit-opening solution gs on matches up range h =
       givens = λ cell q g z.
           omega (arith, z, given-digit solution gs on rise matches cell q (sym (given-at gs cell on q) ∙ g), range-from (at solution cell) (range cell q));
       notes = λ cell q. ap isNote (empty-note cell q) ∙ isNote-zero;
-      status = sym (both-false-left (isFull (digitsOf gs)) (isConsistent (digitsOf gs)) (fresh-not-full gs on rise h));
+      status = sym (ap bit (both-false-left (isFull (digitsOf gs)) (isConsistent (digitsOf gs)) (fresh-not-full gs on rise h)));
     }
   where
     rise : Rising 0 gs
     rise = rising solution gs on matches up
 
 -- which is not solved
-pub opening-unsolved : (gs : List Given) → (opening gs) .solved ≡ false
+pub opening-unsolved : (gs : List Given) → isOn (opening gs .solved) ≡ false
 unfolding opening
 opening-unsolved gs = refl

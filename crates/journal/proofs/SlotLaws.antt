@@ -63,7 +63,7 @@ module _ (k : ℕ) (place erase mark : Bool) where
   kind-none a b c d = rw (ne-eqb k 2 a, ne-eqb k 3 b, ne-eqb k 4 c, ne-eqb k 5 d)
 
 -- so a slot is sound by the ranges of its kind, where its cell is free
-module _ (given : List Bool) (slot : Slot) where
+module _ (given : List ℕ) (slot : Slot) where
   of-kind : soundFor given slot ≡ both (isFree given (slot .row) (slot .column)) (ofKind (slot .kind) (soundPlace slot) (soundErase slot) (soundMark slot))
   unfolding soundFor isSound isFree ofKind
   of-kind = refl

@@ -83,11 +83,11 @@ isSound s slot =
     (either (both (eqb (slot .kind) 3) (soundErase slot)) (both (either (eqb (slot .kind) 4) (eqb (slot .kind) 5)) (soundMark slot))))
 
 -- a position is on the grid and no given's
-unfoldable pub isFree : List Bool → ℕ → ℕ → Bool
+unfoldable pub isFree : List ℕ → ℕ → ℕ → Bool
 isFree given row column = both (onGrid row column) (not (isGiven (givensOnly given) (cellOf row column)))
 
 -- a slot is sound, as the givens alone tell
-unfoldable pub soundFor : List Bool → Slot → Bool
+unfoldable pub soundFor : List ℕ → Slot → Bool
 soundFor given slot = isSound (givensOnly given) slot
 
 -- what a slot's move does to the digit of its cell: a place puts its digit there, an erase empties it, and a mark changes no digit

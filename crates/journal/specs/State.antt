@@ -1,5 +1,5 @@
 -- What a move does (board.rs, note.rs): the four moves performed, what each displaces, the same move performed again from its slot, and taken back.
--- A state is what the moves read and change: which cells are givens, the 81 digits, the 81 notes, and the status.
+-- A state is what the moves read and change: which cells are givens, the 81 digits, the 81 notes, and the status. Flags are 1 for yes and 0 for no.
 -- Assumes nothing.
 use Prim.Native.Nat.{ℕ, _+_, _-_, _*_, _/_, _%_}
 use mathlib.Core.Bool.{Bool, true, false, not}
@@ -10,28 +10,28 @@ use Rattle.sudoku.specs.Tests.{pick, both, either, bit}
 use Rattle.sudoku.specs.Grid.{cellOf, at, put, peersOf}
 use Rattle.note.specs.Note.{contains, withMark, without}
 use Rattle.puzzle.specs.declared.Given.{Given}
-use Rattle.puzzle.specs.Givens.{digitsOf, givenCells}
+use Rattle.puzzle.specs.Givens.{digitsOf, givenCells, isSet}
 use Rattle.puzzle.specs.Puzzle.{holdsDigit, settled}
 use Rattle.journal.specs.declared.Move.{Move}
 use Rattle.journal.specs.declared.Move.the-variants.{Place, Erase, WriteMark, StrikeMark}
 
 pub record State : Type 0 where
-  pub given : List Bool
+  pub given : List ℕ
   pub digits : List ℕ
   pub notes : List ℕ
-  pub solved : Bool
+  pub solved : ℕ
 
 -- the givens and empty notes, from which every board starts
 unfoldable pub opening : List Given → State
-opening gs = record { given = givenCells gs; digits = digitsOf gs; notes = replicate 81 0; solved = false }
+opening gs = record { given = givenCells gs; digits = digitsOf gs; notes = replicate 81 0; solved = 0 }
 
 -- what is asked of the givens alone is asked of this state
-unfoldable pub givensOnly : List Bool → State
-givensOnly given = record { given = given; digits = []; notes = []; solved = false }
+unfoldable pub givensOnly : List ℕ → State
+givensOnly given = record { given = given; digits = []; notes = []; solved = 0 }
 
 -- of a cell: whether it is a given, its digit (0 for none), its kept note
 unfoldable pub isGiven : State → ℕ → Bool
-isGiven s cell = getD (s .given) (cell - 1) false
+isGiven s cell = isSet (s .given) cell
 
 unfoldable pub digitAt : State → ℕ → ℕ
 digitAt s cell = at (s .digits) cell

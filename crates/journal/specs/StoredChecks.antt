@@ -75,10 +75,10 @@ isSoundCheck s checks n =
     (both (both (leb 1 (c .standing)) (leb (c .standing) maxMoves)) (both (inRange (c .digit)) (leb (verdictByte checks n) 1)))
 
 -- the same of its fields and its verdict byte, as the givens alone tell
-unfoldable pub soundStored : List Bool → ℕ → ℕ → ℕ → ℕ → ℕ → Bool
+unfoldable pub soundStored : List ℕ → ℕ → ℕ → ℕ → ℕ → ℕ → Bool
 soundStored given standing row column digit verdict =
     both (isFree given row column)
     (both (both (leb 1 standing) (leb standing maxMoves)) (both (inRange digit) (leb verdict 1)))
 
-unfoldable pub soundCheckFor : List Bool → List ℕ → ℕ → Bool
+unfoldable pub soundCheckFor : List ℕ → List ℕ → ℕ → Bool
 soundCheckFor given checks n = isSoundCheck (givensOnly given) checks n

@@ -56,7 +56,7 @@ fn two(low: u8, second: u8) -> usize
 
 // Whether the fields of a check and its verdict byte lie in their ranges, and its cell is on the grid and no given's.
 fn sound_fields(
-    given: &[bool; 81],
+    given: &[u8; 81],
     standing: usize,
     row: u8,
     column: u8,
@@ -81,7 +81,7 @@ fn sound_fields(
 }
 
 // Whether stored check n is sound. What lies past the end of the memory reads as 0, which is no cell's row.
-pub fn is_sound_check(given: &[bool; 81], checks: &[u8], n: usize) -> bool
+pub fn is_sound_check(given: &[u8; 81], checks: &[u8], n: usize) -> bool
     ensures { λ r. ⌜ r ≡ soundCheckFor (now (given .entry)) (now (checks .entry)) n ⌝ }
 {
     let index = index_of(n);

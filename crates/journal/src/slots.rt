@@ -125,19 +125,19 @@ pub fn digit_change(slot: Slot) -> DigitChange
 }
 
 // Whether a cell is a given. No cell beyond the grid is.
-pub fn is_given(given: &[bool; 81], cell: usize) -> bool
+pub fn is_given(given: &[u8; 81], cell: usize) -> bool
     ensures { λ r. ⌜ r ≡ isGiven (givensOnly (now (given .entry))) cell ⌝ }
 {
-    let all: &[bool] = given;
+    let all: &[u8] = given;
     let at = index_of(cell);
     if at < all.len() {
-        return all[at];
+        return all[at] != 0;
     }
     false
 }
 
 // Whether a position is on the grid and no given's.
-pub fn is_free(given: &[bool; 81], row: u8, column: u8) -> bool
+pub fn is_free(given: &[u8; 81], row: u8, column: u8) -> bool
     ensures { λ r. ⌜ r ≡ isFree (now (given .entry)) row column ⌝ }
 {
     if !on_grid(row, column) {
@@ -186,7 +186,7 @@ fn sound_mark(slot: Slot) -> bool
 }
 
 // Whether a slot is sound: its kind is one of the four, its fields lie in that kind's ranges, and its cell is on the grid and no given's.
-pub fn is_sound(given: &[bool; 81], slot: Slot) -> bool
+pub fn is_sound(given: &[u8; 81], slot: Slot) -> bool
     ensures { λ r. ⌜ r ≡ soundFor (now (given .entry)) slot ⌝ }
 {
     if !is_free(given, slot.row, slot.column) {

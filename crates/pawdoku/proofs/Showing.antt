@@ -1,4 +1,4 @@
--- A move that is shown: what is answered where it is refused and where its slot is copied, and that the slot has its eight bytes; an encoded list of calls on a host's board.
+-- A move that is shown: what is answered where it is refused and where its slot is copied, and that the slot has its eight bytes.
 -- Assumes nothing.
 use Prim.Native.Nat.{ℕ, _+_, _-_, _*_, _≤_, _<_}
 use mathlib.Core.Path.{_≡_, sym, ap, _∙_}
@@ -20,10 +20,8 @@ use Rattle.board.specs.declared.Board.{Board}
 use Rattle.play.specs.Play.{latestNumber, latestPart, nextNumber, nextPart}
 use Rattle.play.proofs.Accepted.{latest-part, latest-within, next-part, next-within}
 use Rattle.calls.specs.Encoded.{ran, session, runOf}
-use Rattle.host.specs.declared.HostBoard.{HostBoard}
-use Rattle.host.specs.Host.{hasFlags, boardIn, hostOf}
 use Rattle.pawdoku.specs.declared.Shown.{Shown}
-use Rattle.pawdoku.specs.Library.{notShown, shownAt, showing, showNumber, shown, hostRan, ranFor, hostRunOf}
+use Rattle.pawdoku.specs.Library.{notShown, shownAt, showing, showNumber, shown}
 
 -- ---- a move that is shown
 
@@ -99,22 +97,3 @@ module _ (b : Board) (journal : List ℕ) where
   pub next-length : nextNumber b journal ≡ 0 → length (nextPart b journal) ≡ slotBytes
   next-length p =
       ap length (sym (next-part b journal p)) ∙ slot-length journal (b .standing + 1) (omega (arith, next-within b journal p))
-
--- ---- an encoded list of calls
-
-module _ (h : HostBoard) (journal checks calls answers : List ℕ) where
-  pub run-refused : (r : Refusal) → hasFlags h ≡ false → r ≡ refusal 2 0 0
-      → hostRan (record { refusal = r; board = h }) journal checks answers ≡ hostRunOf h journal checks calls answers
-  unfolding hostRunOf
-  run-refused r p q =
-      (λ i. hostRan (record { refusal = q i; board = h }) journal checks answers)
-      ∙ sym (pick-false _ _ _ p)
-
-  pub run-made : (r : Refusal) (b left : Board) (on : HostBoard) (j c a : List ℕ) → hasFlags h ≡ true → r ≡ accepted → b ≡ boardIn h → on ≡ hostOf left
-      → ran (session left j c) a ≡ runOf (session b journal checks) calls answers
-      → hostRan (record { refusal = r; board = on }) j c a ≡ hostRunOf h journal checks calls answers
-  unfolding hostRunOf ranFor
-  run-made r b left on j c a p q e o run =
-      (λ i. hostRan (record { refusal = q i; board = o i }) j c a)
-      ∙ (λ i. ranFor ((run ∙ (λ k. runOf (session (e k) journal checks) calls answers)) i))
-      ∙ sym (pick-true _ _ _ p)

@@ -1,4 +1,4 @@
--- What the library answers where the board's own definitions do not say it: a move that is shown, copied; an encoded list of calls on a host's board.
+-- What the library answers where the board's own definitions do not say it: a move that is shown, copied.
 -- Assumes nothing.
 use Prim.Native.Nat.{ℕ, _*_, _-_}
 use mathlib.Core.Bool.{not}
@@ -13,10 +13,6 @@ use Rattle.journal.specs.Limits.{slotBytes}
 use Rattle.journal.specs.Bytes.{over}
 use Rattle.board.specs.declared.Board.{Board}
 use Rattle.play.specs.Play.{latestNumber, latestPart, nextNumber, nextPart}
-use Rattle.calls.specs.Encoded.{Ran, session, runOf}
-use Rattle.host.specs.declared.HostBoard.{HostBoard}
-use Rattle.host.specs.declared.HostAnswer.{HostAnswer}
-use Rattle.host.specs.Host.{hasFlags, boardIn, hostOf}
 use Rattle.pawdoku.specs.declared.Shown.{Shown}
 use Rattle.pawdoku.specs.declared.Digits.{Digits}
 use Rattle.pawdoku.specs.declared.PeerCells.{PeerCells}
@@ -54,27 +50,6 @@ latestShown b journal output = shown (latestNumber b journal) (slotBytes * (b .s
 -- the next to redo, the slot behind it: 1 2 13 34
 unfoldable pub nextShown : Board → List ℕ → List ℕ → Showing
 nextShown b journal output = shown (nextNumber b journal) (slotBytes * b .standing) (nextPart b journal) output
-
--- ---- an encoded list of calls
-
--- what a host gets, both lent memories, and the answers' bytes
-pub record HostRan : Type 0 where
-  pub answer : HostAnswer
-  pub journal : List ℕ
-  pub checks : List ℕ
-  pub answers : List ℕ
-
-abbrev pub hostRan : HostAnswer → List ℕ → List ℕ → List ℕ → HostRan
-hostRan answer journal checks answers = record { answer = answer; journal = journal; checks = checks; answers = answers }
-
-unfoldable pub ranFor : Ran → HostRan
-ranFor r = hostRan (record { refusal = accepted; board = hostOf (r .left .board) }) (r .left .journal) (r .left .checks) (r .answers)
-
--- refused by 2 where a flag is neither 0 nor 1, and then nothing is run; else the run of all whole groups
-unfoldable pub hostRunOf : HostBoard → List ℕ → List ℕ → List ℕ → List ℕ → HostRan
-hostRunOf h journal checks calls answers =
-    pick (hasFlags h) (ranFor (runOf (session (boardIn h) journal checks) calls answers))
-    (hostRan (record { refusal = refusal 2 0 0; board = h }) journal checks answers)
 
 -- ---- arrays, which C returns in a struct
 

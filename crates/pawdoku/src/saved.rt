@@ -1,14 +1,11 @@
 // Opening, and the record: written, and reopened.
-use host::HostAnswer;
-use host::HostBoard;
-use host::board_in;
-use host::opened;
+use board::Answer;
+use board::Board;
 use record::Written;
 ghost use mathlib.Core.Path.{_≡_};
 ghost use Rattle.board.specs.Open.{openOf};
 ghost use Rattle.record.specs.Write.{writeOf};
 ghost use Rattle.record.specs.Reopen.{reopenOf};
-ghost use Rattle.host.specs.Host.{boardIn, opened as openedOf};
 
 #[no_mangle]
 pub extern "C" fn pawdoku_open(
@@ -16,12 +13,12 @@ pub extern "C" fn pawdoku_open(
     solution: &[u8],
     journal: &mut [u8],
     checks: &mut [u8],
-) -> HostAnswer
-    ensures { λ r. ⌜ r ≡ openedOf (openOf (now (givens .entry)) (now (solution .entry)) (now (journal .entry)) (now (checks .entry)) .answer) ⌝ }
+) -> Answer
+    ensures { λ r. ⌜ r ≡ openOf (now (givens .entry)) (now (solution .entry)) (now (journal .entry)) (now (checks .entry)) .answer ⌝ }
     ensures { λ _. ⌜ now (journal .exit) ≡ openOf (now (givens .entry)) (now (solution .entry)) (now (journal .entry)) (now (checks .entry)) .journal ⌝ }
     ensures { λ _. ⌜ now (checks .exit) ≡ openOf (now (givens .entry)) (now (solution .entry)) (now (journal .entry)) (now (checks .entry)) .checks ⌝ }
 {
-    opened(board::open::open(givens, solution, journal, checks))
+    board::open::open(givens, solution, journal, checks)
 }
 
 #[no_mangle]
@@ -30,23 +27,23 @@ pub extern "C" fn pawdoku_reopen(
     solution: &[u8],
     journal: &mut [u8],
     checks: &mut [u8],
-) -> HostAnswer
-    ensures { λ r. ⌜ r ≡ openedOf (reopenOf (now (bytes .entry)) (now (solution .entry)) (now (journal .entry)) (now (checks .entry)) .answer) ⌝ }
+) -> Answer
+    ensures { λ r. ⌜ r ≡ reopenOf (now (bytes .entry)) (now (solution .entry)) (now (journal .entry)) (now (checks .entry)) .answer ⌝ }
     ensures { λ _. ⌜ now (journal .exit) ≡ reopenOf (now (bytes .entry)) (now (solution .entry)) (now (journal .entry)) (now (checks .entry)) .journal ⌝ }
     ensures { λ _. ⌜ now (checks .exit) ≡ reopenOf (now (bytes .entry)) (now (solution .entry)) (now (journal .entry)) (now (checks .entry)) .checks ⌝ }
 {
-    opened(reopen::reopen(bytes, solution, journal, checks))
+    reopen::reopen(bytes, solution, journal, checks)
 }
 
 #[no_mangle]
 pub extern "C" fn pawdoku_write(
-    board: HostBoard,
+    board: Board,
     journal: &[u8],
     checks: &[u8],
     output: &mut [u8],
 ) -> Written
-    ensures { λ r. ⌜ r ≡ writeOf (boardIn board) (now (journal .entry)) (now (checks .entry)) (now (output .entry)) .answer ⌝ }
-    ensures { λ _. ⌜ now (output .exit) ≡ writeOf (boardIn board) (now (journal .entry)) (now (checks .entry)) (now (output .entry)) .output ⌝ }
+    ensures { λ r. ⌜ r ≡ writeOf board (now (journal .entry)) (now (checks .entry)) (now (output .entry)) .answer ⌝ }
+    ensures { λ _. ⌜ now (output .exit) ≡ writeOf board (now (journal .entry)) (now (checks .entry)) (now (output .entry)) .output ⌝ }
 {
-    record::write::write(board_in(board), journal, checks, output)
+    record::write::write(board, journal, checks, output)
 }

@@ -1,17 +1,15 @@
 // What the journal shows: the latest standing move, the next to redo, and the reading of move k.
 // A part of the journal cannot be returned over the C boundary, so the slot's bytes are copied and its offset is answered.
+use board::Board;
 use crate::Shown;
-use host::HostBoard;
-use host::board_in;
 use journal::SLOT_BYTES;
-use moves::Reading;
+use readings::Reading;
 use puzzle::answer::accepted;
 use puzzle::answer::refusal;
 ghost use mathlib.Core.Path.{_≡_};
 ghost use lib.ListN.{length};
 ghost use Rattle.journal.specs.Limits.{slotBytes};
-ghost use Rattle.moves.specs.Reading.{readingOf};
-ghost use Rattle.host.specs.Host.{boardIn};
+ghost use Rattle.readings.specs.Reading.{readingOf};
 ghost use Rattle.pawdoku.specs.Library.{notShown, shown, latestShown, nextShown};
 
 fn not_shown(number: u8) -> Shown
@@ -42,36 +40,34 @@ fn copied(part: &[u8], offset: usize, output: &mut [u8]) -> Shown
 }
 
 #[no_mangle]
-pub extern "C" fn pawdoku_latest(board: HostBoard, journal: &[u8], output: &mut [u8]) -> Shown
-    ensures { λ r. ⌜ r ≡ latestShown (boardIn board) (now (journal .entry)) (now (output .entry)) .answer ⌝ }
-    ensures { λ _. ⌜ now (output .exit) ≡ latestShown (boardIn board) (now (journal .entry)) (now (output .entry)) .output ⌝ }
+pub extern "C" fn pawdoku_latest(board: Board, journal: &[u8], output: &mut [u8]) -> Shown
+    ensures { λ r. ⌜ r ≡ latestShown board (now (journal .entry)) (now (output .entry)) .answer ⌝ }
+    ensures { λ _. ⌜ now (output .exit) ≡ latestShown board (now (journal .entry)) (now (output .entry)) .output ⌝ }
 {
-    let inside = board_in(board);
     let mut number: u8 = 0;
-    let part = play::shown::latest(inside, journal, &mut number);
+    let part = play::shown::latest(board, journal, &mut number);
     if number != 0 {
         return not_shown(number);
     }
-    copied(part, SLOT_BYTES * (inside.standing - 1), output)
+    copied(part, SLOT_BYTES * (board.standing - 1), output)
 }
 
 #[no_mangle]
-pub extern "C" fn pawdoku_next(board: HostBoard, journal: &[u8], output: &mut [u8]) -> Shown
-    ensures { λ r. ⌜ r ≡ nextShown (boardIn board) (now (journal .entry)) (now (output .entry)) .answer ⌝ }
-    ensures { λ _. ⌜ now (output .exit) ≡ nextShown (boardIn board) (now (journal .entry)) (now (output .entry)) .output ⌝ }
+pub extern "C" fn pawdoku_next(board: Board, journal: &[u8], output: &mut [u8]) -> Shown
+    ensures { λ r. ⌜ r ≡ nextShown board (now (journal .entry)) (now (output .entry)) .answer ⌝ }
+    ensures { λ _. ⌜ now (output .exit) ≡ nextShown board (now (journal .entry)) (now (output .entry)) .output ⌝ }
 {
-    let inside = board_in(board);
     let mut number: u8 = 0;
-    let part = play::shown::next(inside, journal, &mut number);
+    let part = play::shown::next(board, journal, &mut number);
     if number != 0 {
         return not_shown(number);
     }
-    copied(part, SLOT_BYTES * inside.standing, output)
+    copied(part, SLOT_BYTES * board.standing, output)
 }
 
 #[no_mangle]
-pub extern "C" fn pawdoku_reading(board: HostBoard, journal: &[u8], k: usize) -> Reading
-    ensures { λ r. ⌜ r ≡ readingOf (boardIn board) (now (journal .entry)) k ⌝ }
+pub extern "C" fn pawdoku_reading(board: Board, journal: &[u8], k: usize) -> Reading
+    ensures { λ r. ⌜ r ≡ readingOf board (now (journal .entry)) k ⌝ }
 {
-    moves::read::reading(board_in(board), journal, k)
+    readings::read::reading(board, journal, k)
 }

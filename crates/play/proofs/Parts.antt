@@ -10,7 +10,7 @@ use Rattle.journal.specs.Slots.{slotFor}
 use Rattle.play.specs.Parts.{parts}
 
 pub perform-parts : (s : State) (m : Move)
-    → parts (s .given) (perform (parts [] (s .digits) [] (s .solved)) m .digits) (perform (parts [] [] (s .notes) false) m .notes) (perform (parts [] (s .digits) [] (s .solved)) m .solved)
+    → parts (s .given) (perform (parts [] (s .digits) [] (s .solved)) m .digits) (perform (parts [] [] (s .notes) 0) m .notes) (perform (parts [] (s .digits) [] (s .solved)) m .solved)
     ≡ perform s m
 unfolding perform withNotes putDigit
 perform-parts s (Place row column digit) = refl
@@ -18,7 +18,7 @@ perform-parts s (Erase row column) = refl
 perform-parts s (WriteMark row column digit) = refl
 perform-parts s (StrikeMark row column digit) = refl
 
-pub slot-parts : (s : State) (m : Move) → slotFor (parts [] (s .digits) (s .notes) false) m ≡ slotFor s m
+pub slot-parts : (s : State) (m : Move) → slotFor (parts [] (s .digits) (s .notes) 0) m ≡ slotFor s m
 unfolding slotFor before struck digitAt
 slot-parts s (Place row column digit) = refl
 slot-parts s (Erase row column) = refl

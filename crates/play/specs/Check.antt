@@ -5,6 +5,7 @@ use mathlib.Core.Bool.{Bool, false, not}
 use mathlib.Core.List.{List, [], _∷_}
 use lib.Dec.{eqb}
 use lib.ListN.{length}
+use Rattle.puzzle.specs.Givens.{isOn}
 use Rattle.sudoku.specs.Tests.{Test, _⇒_, first, pick}
 use Rattle.sudoku.specs.Grid.{onGrid, cellOf}
 use Rattle.puzzle.specs.declared.Refusal.{Refusal}
@@ -23,7 +24,7 @@ checkTests b checks row column =
     (not (eqb (length checks) checkMemory) ⇒ 1)
     ∷ (not (isBoard b) ⇒ 2)
     ∷ (not (onGrid row column) ⇒ 3)
-    ∷ (b .solved ⇒ 4)
+    ∷ (isOn (b .solved) ⇒ 4)
     ∷ (not (holdsPlayersDigit (stateOf b) (cellOf row column)) ⇒ 6)
     ∷ (eqb (b .checks) maxChecks ⇒ 16)
     ∷ []

@@ -7,6 +7,7 @@ use mathlib.Core.Bool.{Bool, not}
 use mathlib.Core.List.{List, [], _∷_, _++_}
 use lib.Dec.{leb, eqb}
 use lib.ListN.{length}
+use Rattle.puzzle.specs.Givens.{isOn}
 use Rattle.sudoku.specs.Tests.{Test, _⇒_, first, pick, both}
 use Rattle.sudoku.specs.Grid.{inRange, onGrid, cellOf}
 use Rattle.note.specs.Note.{contains}
@@ -37,23 +38,23 @@ played r b journal = record { answer = answer r b; journal = journal }
 unfoldable pub moveTests : State → Move → List Test
 moveTests s (Place row column digit) =
     (not (onGrid row column) ⇒ 3)
-    ∷ (s .solved ⇒ 4)
+    ∷ (isOn (s .solved) ⇒ 4)
     ∷ (isGiven s (cellOf row column) ⇒ 5)
     ∷ (not (inRange digit) ⇒ 8)
     ∷ (eqb (digitAt s (cellOf row column)) digit ⇒ 9)
     ∷ []
 moveTests s (Erase row column) =
-    (not (onGrid row column) ⇒ 3) ∷ (s .solved ⇒ 4) ∷ (not (holdsPlayersDigit s (cellOf row column)) ⇒ 6) ∷ []
+    (not (onGrid row column) ⇒ 3) ∷ (isOn (s .solved) ⇒ 4) ∷ (not (holdsPlayersDigit s (cellOf row column)) ⇒ 6) ∷ []
 moveTests s (WriteMark row column digit) =
     (not (onGrid row column) ⇒ 3)
-    ∷ (s .solved ⇒ 4)
+    ∷ (isOn (s .solved) ⇒ 4)
     ∷ (not (acceptsMarks s (cellOf row column)) ⇒ 7)
     ∷ (not (inRange digit) ⇒ 8)
     ∷ (contains (noteAt s (cellOf row column)) digit ⇒ 10)
     ∷ []
 moveTests s (StrikeMark row column digit) =
     (not (onGrid row column) ⇒ 3)
-    ∷ (s .solved ⇒ 4)
+    ∷ (isOn (s .solved) ⇒ 4)
     ∷ (not (acceptsMarks s (cellOf row column)) ⇒ 7)
     ∷ (not (contains (noteAt s (cellOf row column)) digit) ⇒ 11)
     ∷ []
@@ -111,7 +112,7 @@ canTakeBack s slot = both (isSound s slot) (standsAsLeft s (moveOf slot) (slot .
 unfoldable pub undoTests : Board → List ℕ → List Test
 undoTests b journal =
     lentTests b journal
-    ((b .solved ⇒ 4) ∷ (eqb (b .standing) 0 ⇒ 12) ∷ (not (canTakeBack (stateOf b) (slotAt journal (b .standing))) ⇒ 14) ∷ [])
+    ((isOn (b .solved) ⇒ 4) ∷ (eqb (b .standing) 0 ⇒ 12) ∷ (not (canTakeBack (stateOf b) (slotAt journal (b .standing))) ⇒ 14) ∷ [])
 
 -- the latest standing move taken back as its slot says; no slot is written
 unfoldable pub undone : Board → Slot → Board
@@ -130,7 +131,7 @@ canRetake s slot = both (isSound s slot) (standsAsFound s (moveOf slot) (slot .b
 unfoldable pub redoTests : Board → List ℕ → List Test
 redoTests b journal =
     lentTests b journal
-    ((b .solved ⇒ 4)
+    ((isOn (b .solved) ⇒ 4)
     ∷ (leb (b .made) (b .standing) ⇒ 13)
     ∷ (not (canRetake (stateOf b) (slotAt journal (b .standing + 1))) ⇒ 14)
     ∷ [])

@@ -16,6 +16,7 @@ ghost use mathlib.Core.Bool.{not};
 ghost use mathlib.Core.List.{[], _∷_};
 ghost use Prim.Native.Nat.{_+_, _*_, _<_};
 ghost use lib.Dec.{eqb};
+ghost use Rattle.puzzle.specs.Givens.{isOn};
 ghost use Rattle.sudoku.specs.Tests.{_⇒_, first};
 ghost use Rattle.sudoku.specs.Grid.{cellOf, onGrid, at};
 ghost use Rattle.journal.specs.Limits.{maxChecks, checkBytes, checkMemory};
@@ -37,10 +38,10 @@ pub fn is_right(solution: &[u8; 81], cell: usize, digit: u8) -> bool
 // 1 2 3 4 6 16, asked of a board's parts.
 pub fn number_of_check<'a>(
     digits: &'a [u8; 81],
-    given: &'a [bool; 81],
+    given: &'a [u8; 81],
     notes: &'a [u16; 81],
     solution: &'a [u8; 81],
-    solved: bool,
+    solved: u8,
     made: usize,
     standing: usize,
     checks: usize,
@@ -48,18 +49,18 @@ pub fn number_of_check<'a>(
     row: u8,
     column: u8,
 ) -> u8
-    ensures { λ r. ⌜ r ≡ first ((not (eqb length checkMemory) ⇒ 1) ∷ (not (isBoard (whole (now (digits .entry)) (now (given .entry)) (now (notes .entry)) (now (solution .entry)) solved made standing checks)) ⇒ 2) ∷ (not (onGrid row column) ⇒ 3) ∷ (solved ⇒ 4) ∷ (not (holdsPlayersDigit (parts (now (given .entry)) (now (digits .entry)) (now (notes .entry)) solved) (cellOf row column)) ⇒ 6) ∷ (eqb checks maxChecks ⇒ 16) ∷ []) ⌝ }
+    ensures { λ r. ⌜ r ≡ first ((not (eqb length checkMemory) ⇒ 1) ∷ (not (isBoard (whole (now (digits .entry)) (now (given .entry)) (now (notes .entry)) (now (solution .entry)) solved made standing checks)) ⇒ 2) ∷ (not (onGrid row column) ⇒ 3) ∷ (isOn solved ⇒ 4) ∷ (not (holdsPlayersDigit (parts (now (given .entry)) (now (digits .entry)) (now (notes .entry)) solved) (cellOf row column)) ⇒ 6) ∷ (eqb checks maxChecks ⇒ 16) ∷ []) ⌝ }
 {
     if length != CHECK_MEMORY {
         return 1;
     }
-    if !is_value(digits, given, notes, solution, made, standing, checks) {
+    if !is_value(digits, given, notes, solution, solved, made, standing, checks) {
         return 2;
     }
     if !on_grid(row, column) {
         return 3;
     }
-    if solved {
+    if solved != 0 {
         return 4;
     }
     if !holds_players_digit(digits, given, cell_of(row, column)) {
@@ -73,7 +74,7 @@ pub fn number_of_check<'a>(
 
 // The same of a board.
 fn check_number(board: Board, length: usize, row: u8, column: u8) -> u8
-    ensures { λ r. ⌜ r ≡ first ((not (eqb length checkMemory) ⇒ 1) ∷ (not (isBoard board) ⇒ 2) ∷ (not (onGrid row column) ⇒ 3) ∷ (board .solved ⇒ 4) ∷ (not (holdsPlayersDigit (stateOf board) (cellOf row column)) ⇒ 6) ∷ (eqb (board .checks) maxChecks ⇒ 16) ∷ []) ⌝ }
+    ensures { λ r. ⌜ r ≡ first ((not (eqb length checkMemory) ⇒ 1) ∷ (not (isBoard board) ⇒ 2) ∷ (not (onGrid row column) ⇒ 3) ∷ (isOn (board .solved) ⇒ 4) ∷ (not (holdsPlayersDigit (stateOf board) (cellOf row column)) ⇒ 6) ∷ (eqb (board .checks) maxChecks ⇒ 16) ∷ []) ⌝ }
 {
     let solved = board.solved;
     let made = board.made;

@@ -44,7 +44,7 @@ fn set_digit(digits: &mut [u8; 81], cell: usize, digit: u8)
 }
 
 // A digit put into a cell, in place, which settles the status that is answered; 0 empties the cell, which settles nothing.
-pub fn put_in(digits: &mut [u8; 81], solved: bool, cell: usize, digit: u8) -> bool
+pub fn put_in(digits: &mut [u8; 81], solved: u8, cell: usize, digit: u8) -> u8
     ensures { λ r. ⌜ (r ≡ putDigit (parts [] (now (digits .entry)) [] solved) cell digit .solved) × (now (digits .exit) ≡ putDigit (parts [] (now (digits .entry)) [] solved) cell digit .digits) ⌝ }
 {
     set_digit(digits, cell, digit);
@@ -55,7 +55,7 @@ pub fn put_in(digits: &mut [u8; 81], solved: bool, cell: usize, digit: u8) -> bo
 }
 
 // What a move does to the digits, in place; the status afterwards is answered.
-pub fn perform_digit(digits: &mut [u8; 81], solved: bool, m: Move) -> bool
+pub fn perform_digit(digits: &mut [u8; 81], solved: u8, m: Move) -> u8
     ensures { λ r. ⌜ (r ≡ performOf (parts [] (now (digits .entry)) [] solved) m .solved) × (now (digits .exit) ≡ performOf (parts [] (now (digits .entry)) [] solved) m .digits) ⌝ }
 {
     match m {
@@ -83,7 +83,7 @@ fn strike_peers(notes: &mut [u16; 81], cell: usize, digit: u8)
 
 // What a move does to the kept notes, in place.
 pub fn perform_notes(notes: &mut [u16; 81], m: Move)
-    ensures { λ _. ⌜ now (notes .exit) ≡ performOf (parts [] [] (now (notes .entry)) false) m .notes ⌝ }
+    ensures { λ _. ⌜ now (notes .exit) ≡ performOf (parts [] [] (now (notes .entry)) 0) m .notes ⌝ }
 {
     match m {
         Move::Place { row, column, digit } => strike_peers(notes, cell_of(row, column), digit),
@@ -95,7 +95,7 @@ pub fn perform_notes(notes: &mut [u16; 81], m: Move)
 
 // The slot of a move with what it displaces: the digit before, and the peers that lose the mark.
 pub fn slot_of<'a>(digits: &'a [u8; 81], notes: &'a [u16; 81], m: Move) -> Slot
-    ensures { λ r. ⌜ r ≡ slotFor (parts [] (now (digits .entry)) (now (notes .entry)) false) m ⌝ }
+    ensures { λ r. ⌜ r ≡ slotFor (parts [] (now (digits .entry)) (now (notes .entry)) 0) m ⌝ }
 {
     match m {
         Move::Place { row, column, digit } => {

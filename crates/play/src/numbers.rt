@@ -17,6 +17,7 @@ ghost use mathlib.Core.Bool.{false, not};
 ghost use mathlib.Core.List.{[], _∷_, _++_};
 ghost use Prim.Native.Nat.{_≤_};
 ghost use lib.Dec.{eqb};
+ghost use Rattle.puzzle.specs.Givens.{isOn};
 ghost use Rattle.sudoku.specs.Tests.{_⇒_, first};
 ghost use Rattle.sudoku.specs.Grid.{inRange, onGrid};
 ghost use Rattle.note.specs.Note.{contains};
@@ -28,21 +29,21 @@ ghost use Rattle.play.specs.Parts.{parts};
 ghost use Rattle.play.specs.Play.{lentNumber, lentBy, moveTests};
 
 // 3 and 4, which every move tests first.
-fn cell_number(solved: bool, row: u8, column: u8) -> u8
-    ensures { λ r. ⌜ r ≡ first ((not (onGrid row column) ⇒ 3) ∷ (solved ⇒ 4) ∷ []) ⌝ }
+fn cell_number(solved: u8, row: u8, column: u8) -> u8
+    ensures { λ r. ⌜ r ≡ first ((not (onGrid row column) ⇒ 3) ∷ (isOn solved ⇒ 4) ∷ []) ⌝ }
 {
     if !on_grid(row, column) {
         return 3;
     }
-    if solved {
+    if solved != 0 {
         return 4;
     }
     0
 }
 
 // Of a digit to place at a cell: 5 8 9.
-fn digit_number<'a>(digits: &'a [u8; 81], given: &'a [bool; 81], cell: usize, digit: u8) -> u8
-    ensures { λ r. ⌜ r ≡ first ((isGiven (parts (now (given .entry)) (now (digits .entry)) [] false) cell ⇒ 5) ∷ (not (inRange digit) ⇒ 8) ∷ (eqb (digitAt (parts (now (given .entry)) (now (digits .entry)) [] false) cell) digit ⇒ 9) ∷ []) ⌝ }
+fn digit_number<'a>(digits: &'a [u8; 81], given: &'a [u8; 81], cell: usize, digit: u8) -> u8
+    ensures { λ r. ⌜ r ≡ first ((isGiven (parts (now (given .entry)) (now (digits .entry)) [] 0) cell ⇒ 5) ∷ (not (inRange digit) ⇒ 8) ∷ (eqb (digitAt (parts (now (given .entry)) (now (digits .entry)) [] 0) cell) digit ⇒ 9) ∷ []) ⌝ }
 {
     if is_given(given, cell) {
         return 5;
@@ -58,7 +59,7 @@ fn digit_number<'a>(digits: &'a [u8; 81], given: &'a [bool; 81], cell: usize, di
 
 // Of a mark to write at a cell: 7 8 10.
 fn mark_number<'a>(digits: &'a [u8; 81], notes: &'a [u16; 81], cell: usize, mark: u8) -> u8
-    ensures { λ r. ⌜ r ≡ first ((not (acceptsMarks (parts [] (now (digits .entry)) (now (notes .entry)) false) cell) ⇒ 7) ∷ (not (inRange mark) ⇒ 8) ∷ (contains (noteAt (parts [] (now (digits .entry)) (now (notes .entry)) false) cell) mark ⇒ 10) ∷ []) ⌝ }
+    ensures { λ r. ⌜ r ≡ first ((not (acceptsMarks (parts [] (now (digits .entry)) (now (notes .entry)) 0) cell) ⇒ 7) ∷ (not (inRange mark) ⇒ 8) ∷ (contains (noteAt (parts [] (now (digits .entry)) (now (notes .entry)) 0) cell) mark ⇒ 10) ∷ []) ⌝ }
 {
     if holds_digit(digits, cell) {
         return 7;
@@ -74,7 +75,7 @@ fn mark_number<'a>(digits: &'a [u8; 81], notes: &'a [u16; 81], cell: usize, mark
 
 // Of a mark to strike at a cell: 7 11.
 fn struck_number<'a>(digits: &'a [u8; 81], notes: &'a [u16; 81], cell: usize, mark: u8) -> u8
-    ensures { λ r. ⌜ r ≡ first ((not (acceptsMarks (parts [] (now (digits .entry)) (now (notes .entry)) false) cell) ⇒ 7) ∷ (not (contains (noteAt (parts [] (now (digits .entry)) (now (notes .entry)) false) cell) mark) ⇒ 11) ∷ []) ⌝ }
+    ensures { λ r. ⌜ r ≡ first ((not (acceptsMarks (parts [] (now (digits .entry)) (now (notes .entry)) 0) cell) ⇒ 7) ∷ (not (contains (noteAt (parts [] (now (digits .entry)) (now (notes .entry)) 0) cell) mark) ⇒ 11) ∷ []) ⌝ }
 {
     if holds_digit(digits, cell) {
         return 7;
@@ -86,8 +87,8 @@ fn struck_number<'a>(digits: &'a [u8; 81], notes: &'a [u16; 81], cell: usize, ma
 }
 
 // Of a digit to erase at a cell: 6.
-fn held_number<'a>(digits: &'a [u8; 81], given: &'a [bool; 81], cell: usize) -> u8
-    ensures { λ r. ⌜ r ≡ first ((not (holdsPlayersDigit (parts (now (given .entry)) (now (digits .entry)) [] false) cell) ⇒ 6) ∷ []) ⌝ }
+fn held_number<'a>(digits: &'a [u8; 81], given: &'a [u8; 81], cell: usize) -> u8
+    ensures { λ r. ⌜ r ≡ first ((not (holdsPlayersDigit (parts (now (given .entry)) (now (digits .entry)) [] 0) cell) ⇒ 6) ∷ []) ⌝ }
 {
     if !holds_players_digit(digits, given, cell) {
         return 6;
@@ -98,8 +99,8 @@ fn held_number<'a>(digits: &'a [u8; 81], given: &'a [bool; 81], cell: usize) -> 
 // 3 4 5 8 9.
 fn place_number<'a>(
     digits: &'a [u8; 81],
-    given: &'a [bool; 81],
-    solved: bool,
+    given: &'a [u8; 81],
+    solved: u8,
     row: u8,
     column: u8,
     digit: u8,
@@ -116,8 +117,8 @@ fn place_number<'a>(
 // 3 4 6.
 fn erase_number<'a>(
     digits: &'a [u8; 81],
-    given: &'a [bool; 81],
-    solved: bool,
+    given: &'a [u8; 81],
+    solved: u8,
     row: u8,
     column: u8,
 ) -> u8
@@ -134,7 +135,7 @@ fn erase_number<'a>(
 fn write_mark_number<'a>(
     digits: &'a [u8; 81],
     notes: &'a [u16; 81],
-    solved: bool,
+    solved: u8,
     row: u8,
     column: u8,
     digit: u8,
@@ -152,7 +153,7 @@ fn write_mark_number<'a>(
 fn strike_mark_number<'a>(
     digits: &'a [u8; 81],
     notes: &'a [u16; 81],
-    solved: bool,
+    solved: u8,
     row: u8,
     column: u8,
     digit: u8,
@@ -169,9 +170,9 @@ fn strike_mark_number<'a>(
 // 3 to 11, asked of a board's parts: why a move is refused, 0 where it is not.
 pub fn number_of_move<'a>(
     digits: &'a [u8; 81],
-    given: &'a [bool; 81],
+    given: &'a [u8; 81],
     notes: &'a [u16; 81],
-    solved: bool,
+    solved: u8,
     m: Move,
 ) -> u8
     ensures { λ r. ⌜ r ≡ first (moveTests (parts (now (given .entry)) (now (digits .entry)) (now (notes .entry)) solved) m) ⌝ }
@@ -208,20 +209,21 @@ pub fn number_of_move<'a>(
 // 1 and 2, asked of a board's parts. That no other number comes spares callers a fact.
 pub fn number_of_lent<'a>(
     digits: &'a [u8; 81],
-    given: &'a [bool; 81],
+    given: &'a [u8; 81],
     notes: &'a [u16; 81],
     solution: &'a [u8; 81],
+    solved: u8,
     made: usize,
     standing: usize,
     checks: usize,
     length: usize,
 ) -> u8
-    ensures { λ r. ⌜ (r ≡ lentNumber (whole (now (digits .entry)) (now (given .entry)) (now (notes .entry)) (now (solution .entry)) false made standing checks) length) × (r ≤ 2) ⌝ }
+    ensures { λ r. ⌜ (r ≡ lentNumber (whole (now (digits .entry)) (now (given .entry)) (now (notes .entry)) (now (solution .entry)) solved made standing checks) length) × (r ≤ 2) ⌝ }
 {
     if length != JOURNAL_BYTES {
         return 1;
     }
-    if !is_value(digits, given, notes, solution, made, standing, checks) {
+    if !is_value(digits, given, notes, solution, solved, made, standing, checks) {
         return 2;
     }
     0
@@ -231,6 +233,7 @@ pub fn number_of_lent<'a>(
 pub fn lent_number(board: Board, length: usize) -> u8
     ensures { λ r. ⌜ (r ≡ lentNumber board length) × (r ≤ 2) ⌝ }
 {
+    let solved = board.solved;
     let made = board.made;
     let standing = board.standing;
     let checks = board.checks;
@@ -239,6 +242,7 @@ pub fn lent_number(board: Board, length: usize) -> u8
         &board.given,
         &board.notes,
         &board.solution,
+        solved,
         made,
         standing,
         checks,
@@ -249,10 +253,10 @@ pub fn lent_number(board: Board, length: usize) -> u8
 // 1, 2, 3 to 11, 15, asked of a board's parts.
 pub fn number_of_call<'a>(
     digits: &'a [u8; 81],
-    given: &'a [bool; 81],
+    given: &'a [u8; 81],
     notes: &'a [u16; 81],
     solution: &'a [u8; 81],
-    solved: bool,
+    solved: u8,
     made: usize,
     standing: usize,
     checks: usize,
@@ -266,6 +270,7 @@ pub fn number_of_call<'a>(
         given,
         notes,
         solution,
+        solved,
         made,
         standing,
         checks,

@@ -61,7 +61,7 @@ fn paint(signs: &[u8; 2379], colours: &[u8; 2379]) {
 // The drawn board of some digits, givens and notes.
 pub fn position<'a>(
     digits: &'a [u8; 81],
-    given: &'a [bool; 81],
+    given: &'a [u8; 81],
     notes: &'a [u16; 81],
     coloured: bool,
 ) {
@@ -86,7 +86,7 @@ fn counts(board: Board) {
     say(b" of ");
     counted(board.made, b" move stands, ", b" moves stand, ");
     counted(board.checks, b" check", b" checks");
-    if board.solved {
+    if board.solved != 0 {
         say(b"; solved");
     }
     say(b"\n");

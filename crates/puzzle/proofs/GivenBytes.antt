@@ -58,10 +58,10 @@ module _ (f : ℕ → Given) where
   put-walk digits zero i = refl
   put-walk digits (suc n) i = put-walk (putAt digits i) n (suc i)
 
-  abbrev pub markAt : List Bool → ℕ → List Bool
-  markAt flags k = set flags (cellOf (f k .row) (f k .column) - 1) true
+  abbrev pub markAt : List ℕ → ℕ → List ℕ
+  markAt flags k = put flags (cellOf (f k .row) (f k .column)) 1
 
-  pub mark-walk : (flags : List Bool) (n i : ℕ) → markGivens flags (listed f n i) ≡ run markAt flags n i
+  pub mark-walk : (flags : List ℕ) (n i : ℕ) → markGivens flags (listed f n i) ≡ run markAt flags n i
   unfolding markGivens listed run
   mark-walk flags zero i = refl
   mark-walk flags (suc n) i = mark-walk (markAt flags i) n (suc i)

@@ -3,7 +3,7 @@
 -- Assumes nothing.
 use Prim.Native.Nat.{ℕ, zero, suc, _+_, _-_, _≤_, _<_}
 use mathlib.Core.Path.{_≡_, refl, sym, ap, subst, _∙_}
-use mathlib.Core.Bool.{Bool, true, false}
+use mathlib.Core.Bool.{Bool, true, false, not}
 use mathlib.Core.List.{List, [], _∷_}
 use native.Mathlib.Omega.{arith}
 use borrow.Author.Tests.{eqb-true, eqb-false, ne-eqb, ltb-true, not-true}
@@ -16,7 +16,7 @@ use Rattle.sudoku.proofs.Walks.{by-test, not-both-ways, both-left, both-right, 
 use Rattle.sudoku.proofs.Grid.{cell-from, cell-to, is-cell, at-put-by, length-put, cell-on, cell-of-is-cell, grid-row, grid-column, range-from, range-to}
 use Rattle.sudoku.proofs.Each.{Each}
 use Rattle.puzzle.specs.declared.Given.{Given}
-use Rattle.puzzle.specs.Givens.{precedes, ascendFrom, ascending, putGivens, markGivens, digitsOf, givenCells}
+use Rattle.puzzle.specs.Givens.{precedes, ascendFrom, ascending, putGivens, markGivens, digitsOf, givenCells, isSet}
 use Rattle.puzzle.specs.Puzzle.{holdsDigit, isFull}
 
 -- the cell of a given
@@ -97,21 +97,20 @@ unfolding Rising
 rising-later c d [] u r = tt
 rising-later c d (g ∷ gs) u r = (omega (arith, r .0), r .1)
 
-length-mark : (flags : List Bool) (gs : List Given) → length (markGivens flags gs) ≡ length flags
+length-mark : (flags : List ℕ) (gs : List Given) → length (markGivens flags gs) ≡ length flags
 unfolding markGivens
 length-mark flags [] = refl
-length-mark flags (g ∷ gs) = length-mark (set flags (cellIn g - 1) true) gs ∙ length-set flags (cellIn g - 1) true
+length-mark flags (g ∷ gs) = length-mark (put flags (cellIn g) 1) gs ∙ length-put flags (cellIn g) 1
 
-flag-set : (flags : List Bool) (c cell : ℕ) → length flags ≡ 81 → isCell c ≡ true → isCell cell ≡ true
-    → getD (set flags (c - 1) true) (cell - 1) false ≡ either (eqb c cell) (getD flags (cell - 1) false)
-flag-set flags c cell n p q =
-    by-test (eqb c cell)
-    (λ t. ap (λ (k : ℕ). getD (set flags (c - 1) true) (k - 1) false) (sym (eqb-true c cell t))
-    ∙ getD-set-same flags (c - 1) true false (omega (arith, cell-from c p, cell-to c p))
-    ∙ sym (either-left _ _ t))
-    (λ t. getD-set-other flags (c - 1) (cell - 1) true false
-    (λ e. eqb-false c cell t (omega (arith, e, cell-from c p, cell-from cell q)))
-    ∙ sym (either-second _ _ t))
+set-or : (t : Bool) (x : ℕ) → not (eqb (pick t 1 x) 0) ≡ either t (not (eqb x 0))
+unfolding pick either
+set-or true x = refl
+set-or false x = refl
+
+flag-set : (flags : List ℕ) (c cell : ℕ) → length flags ≡ 81 → isCell c ≡ true → isCell cell ≡ true
+    → isSet (put flags c 1) cell ≡ either (eqb c cell) (isSet flags cell)
+unfolding isSet
+flag-set flags c cell n p q = ap (λ (x : ℕ). not (eqb x 0)) (at-put-by flags c cell 1 n p q) ∙ set-or (eqb c cell) (at flags cell)
 
 either-swap : (a b c : Bool) → either a (either b c) ≡ either (either b a) c
 unfolding either
@@ -120,14 +119,14 @@ either-swap true false c = refl
 either-swap false true c = refl
 either-swap false false c = refl
 
-marks-at : (flags : List Bool) (gs : List Given) (cell : ℕ) → length flags ≡ 81 → Each OnGrid gs → isCell cell ≡ true
-    → getD (markGivens flags gs) (cell - 1) false ≡ either (marked gs cell) (getD flags (cell - 1) false)
+marks-at : (flags : List ℕ) (gs : List Given) (cell : ℕ) → length flags ≡ 81 → Each OnGrid gs → isCell cell ≡ true
+    → isSet (markGivens flags gs) cell ≡ either (marked gs cell) (isSet flags cell)
 unfolding markGivens marked Each either
 marks-at flags [] cell n ps q = refl
 marks-at flags (g ∷ gs) cell n ps q =
-    marks-at (set flags (cellIn g - 1) true) gs cell (length-set flags (cellIn g - 1) true ∙ n) (ps .1) q
+    marks-at (put flags (cellIn g) 1) gs cell (length-put flags (cellIn g) 1 ∙ n) (ps .1) q
     ∙ ap (λ (t : Bool). either (marked gs cell) t) (flag-set flags (cellIn g) cell n (cell-of-is-cell _ _ (ps .0)) q)
-    ∙ either-swap (marked gs cell) (eqb (cellIn g) cell) (getD flags (cell - 1) false)
+    ∙ either-swap (marked gs cell) (eqb (cellIn g) cell) (isSet flags cell)
 
 either-none : (t : Bool) → either t false ≡ t
 unfolding either
@@ -136,16 +135,33 @@ either-none false = refl
 
 pub length-given-cells : (gs : List Given) → length (givenCells gs) ≡ 81
 unfolding givenCells
-length-given-cells gs = length-mark (replicate 81 false) gs
+length-given-cells gs = length-mark (replicate 81 0) gs
 
 -- a cell is a given's exactly where a given stands there
-pub given-at : (gs : List Given) (cell : ℕ) → Each OnGrid gs → isCell cell ≡ true → getD (givenCells gs) (cell - 1) false ≡ marked gs cell
-unfolding givenCells
+pub given-at : (gs : List Given) (cell : ℕ) → Each OnGrid gs → isCell cell ≡ true → isSet (givenCells gs) cell ≡ marked gs cell
+unfolding givenCells isSet at
 given-at gs cell ps q =
-    marks-at (replicate 81 false) gs cell refl ps q
+    marks-at (replicate 81 0) gs cell refl ps q
     ∙ ap (λ (t : Bool). either (marked gs cell) t)
-    (getD-replicate 81 (cell - 1) false false (omega (arith, cell-from cell q, cell-to cell q)))
+    (ap (λ (x : ℕ). not (eqb x 0)) (getD-replicate 81 (cell - 1) 0 0 (omega (arith, cell-from cell q, cell-to cell q))))
     ∙ either-none (marked gs cell)
+
+-- and no flag is above 1
+marks-small : (flags : List ℕ) (gs : List Given) (cell : ℕ) → length flags ≡ 81 → Each OnGrid gs → isCell cell ≡ true → at flags cell ≤ 1
+    → at (markGivens flags gs) cell ≤ 1
+unfolding markGivens Each
+marks-small flags [] cell n ps q h = h
+marks-small flags (g ∷ gs) cell n ps q h =
+    let w = at-put-by flags (cellIn g) cell 1 n (cell-of-is-cell _ _ (ps .0)) q in
+    marks-small (put flags (cellIn g) 1) gs cell (length-put flags (cellIn g) 1 ∙ n) (ps .1) q
+    (by-test (eqb (cellIn g) cell) (λ t. omega (arith, w, pick-true (eqb (cellIn g) cell) 1 (at flags cell) t))
+    (λ t. omega (arith, w, pick-false (eqb (cellIn g) cell) 1 (at flags cell) t)))
+
+pub flag-small : (gs : List Given) (cell : ℕ) → Each OnGrid gs → isCell cell ≡ true → at (givenCells gs) cell ≤ 1
+unfolding givenCells at
+flag-small gs cell ps q =
+    let z : getD (replicate {A = ℕ} 81 0) (cell - 1) 0 ≡ 0 = getD-replicate {A = ℕ} 81 (cell - 1) 0 0 (omega (arith, cell-from cell q, cell-to cell q)) in
+    marks-small (replicate 81 0) gs cell refl ps q (omega (arith, z))
 
 -- ---- what digits stand
 
@@ -269,9 +285,9 @@ module _ (gs : List Given) (ps : Each OnGrid gs) (r : Rising 0 gs) where
   pub marked-count : count (marked gs) 81 1 ≡ length gs
   marked-count = counts 81 0 gs refl ps r
 
-  pub given-count : count (λ cell. getD (givenCells gs) (cell - 1) false) 81 1 ≡ length gs
+  pub given-count : count (isSet (givenCells gs)) 81 1 ≡ length gs
   given-count =
-      count-same (λ cell. getD (givenCells gs) (cell - 1) false) (marked gs) 81 1
+      count-same (isSet (givenCells gs)) (marked gs) 81 1
       (λ k l u. given-at gs k ps (is-cell k l (omega arith)))
       ∙ marked-count
 

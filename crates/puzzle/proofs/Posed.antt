@@ -20,7 +20,7 @@ use Rattle.puzzle.specs.Refusals.{refusal, accepted, isAccepted, refused
 use Rattle.puzzle.specs.Givens.{ascending}
 use Rattle.puzzle.specs.Puzzle.{isFull, isConsistent, settled}
 use Rattle.puzzle.specs.Vouch.{nothingLeft, solutionDigit, firstHolding, solutionConflict, givenMatches, givensMatch, vouch, wellPosed}
-use Rattle.puzzle.proofs.Puzzle.{full-exactly, consistent-exactly, settled-fresh}
+use Rattle.puzzle.proofs.Puzzle.{full-exactly, consistent-exactly, settled-fresh, bit-true}
 use Rattle.puzzle.proofs.Accepted.{accepts, if-not, if-passed, or-else-of, or-else-left, or-else-right, or-else-parts, first-of, first-at}
 use Rattle.puzzle.proofs.Givens.{OnGrid, Matches, Rising, rising}
 
@@ -103,9 +103,9 @@ module _ (solution : List ℕ) (cell : ℕ) (p : isCell cell ≡ true) where
           h (getD (peersOf cell) i 0) (peers-cell cell p i v) (peers-peer cell p i v) (sym e))
 
 -- a full grid in which no cell conflicts passes at all 81 cells
-pub settled-passes : (digits : List ℕ) → settled digits false ≡ true → firstRefused (solutionConflict digits) 81 1 ≡ accepted
+pub settled-passes : (digits : List ℕ) → settled digits 0 ≡ 1 → firstRefused (solutionConflict digits) 81 1 ≡ accepted
 settled-passes digits t =
-    let s : both (isFull digits) (isConsistent digits) ≡ true = sym (settled-fresh digits) ∙ t in
+    let s : both (isFull digits) (isConsistent digits) ≡ true = bit-true _ (sym (settled-fresh digits) ∙ t) in
     first-of (solutionConflict digits) 81 1
     (λ cell a b.
     let p : isCell cell ≡ true = is-cell cell a (omega arith) in

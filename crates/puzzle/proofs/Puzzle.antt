@@ -13,7 +13,7 @@ use lib.Dec.{eqb}
 use lib.ListN.{length, getD, replicate}
 use Rattle.sudoku.specs.Tests.{pick, both, either, bit, every, count, among, keep, listed}
 use Rattle.sudoku.specs.Grid.{isCell, rowOf, columnOf, boxIndex, isPeerOf, arePeers, peersOf, at, put}
-use Rattle.sudoku.proofs.Walks.{not-both-ways, by-test, both-true, both-left, both-right, either-left, either-right, either-second, either-cases, every-at, every-of}
+use Rattle.sudoku.proofs.Walks.{not-both-ways, by-test, both-true, both-left, both-right, pick-true, either-left, either-right, either-second, either-cases, every-at, every-of}
 use Rattle.sudoku.proofs.Grid.{cell-from, cell-to, is-cell, at-put, at-put-other, peers-has, peers-length, peers-cell, peers-peer, PeerAt}
 use Rattle.sudoku.proofs.Counting.{count-zero, count-one-more}
 use Rattle.puzzle.specs.Puzzle.{isHeld, holdsDigit, conflicts, isFull, isConsistent, settled, digitsLeft}
@@ -38,9 +38,9 @@ fives : ℕ → ℕ → List ℕ
 fives a b = put (put (replicate 81 0) a 5) b 5
 
 -- The solution plays no part in the status: two grids with different digits at cell 1 are both solved. A grid with one empty cell is not, and a solved one stays solved.
-statuses : (at gridG 1 ≡ 1) × (at otherGrid 1 ≡ 2) × (settled gridG false ≡ true) × (settled otherGrid false ≡ true)
-    × (settled (put gridG 81 0) false ≡ false)
-    × (settled (fives 1 2) true ≡ true)
+statuses : (at gridG 1 ≡ 1) × (at otherGrid 1 ≡ 2) × (settled gridG 0 ≡ 1) × (settled otherGrid 0 ≡ 1)
+    × (settled (put gridG 81 0) 0 ≡ 0)
+    × (settled (fives 1 2) 1 ≡ 1)
 unfolding gridG otherGrid digitG exchanged fives listed rowOf columnOf boxIndex pick at put settled isFull isConsistent conflicts holdsDigit isHeld every both either peersOf isCell among keep arePeers isPeerOf
 statuses = (refl, refl, refl, refl, refl, refl)
 
@@ -157,20 +157,35 @@ consistent-exactly digits = (
 -- ---- the status
 
 -- full and consistent: solved, whatever it was
-pub settled-any : (digits : List ℕ) (solved : Bool) → isFull digits ≡ true → isConsistent digits ≡ true → settled digits solved ≡ true
+pub settled-any : (digits : List ℕ) (solved : ℕ) → isFull digits ≡ true → isConsistent digits ≡ true → settled digits solved ≡ 1
 unfolding settled
 settled-any digits solved p q =
-    either-right solved (both (isFull digits) (isConsistent digits)) (both-true (isFull digits) (isConsistent digits) p q)
+    pick-true (both (isFull digits) (isConsistent digits)) 1 solved (both-true (isFull digits) (isConsistent digits) p q)
+
+picked : (t : Bool) → pick t 1 0 ≡ bit t
+unfolding pick bit
+picked true = refl
+picked false = refl
+
+picked-same : (t : Bool) (k : ℕ) → pick t k k ≡ k
+unfolding pick
+picked-same true k = refl
+picked-same false k = refl
 
 -- not solved before: solved now exactly where it is full and consistent
-pub settled-fresh : (digits : List ℕ) → settled digits false ≡ both (isFull digits) (isConsistent digits)
+pub settled-fresh : (digits : List ℕ) → settled digits 0 ≡ bit (both (isFull digits) (isConsistent digits))
 unfolding settled
-settled-fresh digits = either-second false (both (isFull digits) (isConsistent digits)) refl
+settled-fresh digits = picked (both (isFull digits) (isConsistent digits))
+
+pub bit-true : (t : Bool) → bit t ≡ 1 → t ≡ true
+unfolding bit
+bit-true true p = refl
+bit-true false p = absurd (omega (arith, p))
 
 -- solved is final
-pub settled-final : (digits : List ℕ) → settled digits true ≡ true
+pub settled-final : (digits : List ℕ) → settled digits 1 ≡ 1
 unfolding settled
-settled-final digits = either-left true (both (isFull digits) (isConsistent digits)) refl
+settled-final digits = picked-same (both (isFull digits) (isConsistent digits)) 1
 
 -- ---- digits left for a key
 

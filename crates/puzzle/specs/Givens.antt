@@ -1,12 +1,12 @@
 -- Givens of document 01 (proof.rs): triples (row, column, digit), strictly ascending in that order.
 -- Assumes nothing.
 use Prim.Native.Nat.{ℕ, _+_, _-_, _*_}
-use mathlib.Core.Bool.{Bool, true, false}
+use mathlib.Core.Bool.{Bool, true, not}
 use mathlib.Core.List.{List, [], _∷_}
 use lib.Dec.{ltb, eqb}
-use lib.ListN.{getD, set, replicate}
+use lib.ListN.{getD, replicate}
 use Rattle.sudoku.specs.Tests.{both, either, listed}
-use Rattle.sudoku.specs.Grid.{cellOf, put}
+use Rattle.sudoku.specs.Grid.{cellOf, at, put}
 use Rattle.puzzle.specs.declared.Given.{Given}
 use Rattle.puzzle.specs.declared.Layout.{Layout}
 use Rattle.puzzle.specs.declared.Layout.the-variants.{Triples, Items}
@@ -62,14 +62,21 @@ unfoldable pub putGivens : List ℕ → List Given → List ℕ
 putGivens digits [] = digits
 putGivens digits (g ∷ gs) = putGivens (put digits (cellOf (g .row) (g .column)) (g .digit)) gs
 
--- which of the 81 cells hold a given
-unfoldable pub markGivens : List Bool → List Given → List Bool
+-- which of the 81 cells hold a given: flags are bytes, 1 for yes and 0 for no
+unfoldable pub markGivens : List ℕ → List Given → List ℕ
 markGivens flags [] = flags
-markGivens flags (g ∷ gs) = markGivens (set flags (cellOf (g .row) (g .column) - 1) true) gs
+markGivens flags (g ∷ gs) = markGivens (put flags (cellOf (g .row) (g .column)) 1) gs
 
 -- the digits of a fresh board: the givens', 0 (none) elsewhere
 unfoldable pub digitsOf : List Given → List ℕ
 digitsOf gs = putGivens (replicate 81 0) gs
 
-unfoldable pub givenCells : List Given → List Bool
-givenCells gs = markGivens (replicate 81 false) gs
+unfoldable pub givenCells : List Given → List ℕ
+givenCells gs = markGivens (replicate 81 0) gs
+
+-- what a flag says, and the flag of a cell
+abbrev pub isOn : ℕ → Bool
+isOn flag = not (eqb flag 0)
+
+unfoldable pub isSet : List ℕ → ℕ → Bool
+isSet flags cell = isOn (at flags cell)

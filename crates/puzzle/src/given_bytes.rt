@@ -90,15 +90,15 @@ pub fn put_givens(bytes: &[u8], layout: Layout, count: usize) -> [u8; 81]
     digits
 }
 
-// Which cells of a fresh board hold a given.
-pub fn mark_givens(bytes: &[u8], layout: Layout, count: usize) -> [bool; 81]
+// Which cells of a fresh board hold a given: 1 there, 0 elsewhere.
+pub fn mark_givens(bytes: &[u8], layout: Layout, count: usize) -> [u8; 81]
     ensures { λ r. ⌜ r ≡ givenCells (givensIn layout (now (bytes .entry)) count) ⌝ }
 {
-    let mut flags = [false; 81];
+    let mut flags = [0u8; 81];
     let mut i: usize = 0;
     while i < count {
         let g = given_at(bytes, layout, i);
-        flags[index_of(cell_of(g.row, g.column))] = true;
+        flags[index_of(cell_of(g.row, g.column))] = 1;
         i += 1;
     }
     flags

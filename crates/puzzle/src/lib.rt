@@ -18,7 +18,7 @@ ghost use Rattle.puzzle.specs.Puzzle.{isHeld, holdsDigit, conflicts as c
 pub mod answer;
 pub mod given_bytes;
 mod orders;
-pub mod proof;
+pub mod vouch;
 mod units;
 
 // The answer of a call: its number in document 01, 0 where the call is accepted; place and inner are 0 where document 01 says nothing of them.
@@ -129,17 +129,17 @@ pub fn is_consistent(digits: &[u8; 81]) -> bool
     boxes_clear(digits)
 }
 
-// Whether the puzzle is solved after a digit was put into a cell. Solved is final; the full grid is the cheaper test and comes first.
-pub fn settled(digits: &[u8; 81], solved: bool) -> bool
+// The status after a digit was put into a cell, 1 for solved. Solved is final; the full grid is the cheaper test and comes first.
+pub fn settled(digits: &[u8; 81], solved: u8) -> u8
     ensures { λ r. ⌜ r ≡ settledBy (now (digits .entry)) solved ⌝ }
 {
-    if solved {
-        return true;
-    }
     if !is_full(digits) {
-        return false;
+        return solved;
     }
-    is_consistent(digits)
+    if !is_consistent(digits) {
+        return solved;
+    }
+    1
 }
 
 // How many cells hold the digit.

@@ -5,6 +5,7 @@ use Prim.Native.Nat.{ℕ}
 use mathlib.Core.Bool.{Bool, false, not}
 use mathlib.Core.List.{[], _∷_}
 use lib.Dec.{ltb, eqb}
+use Rattle.puzzle.specs.Givens.{isOn}
 use Rattle.sudoku.specs.Tests.{_⇒_, first, pick, both}
 use Rattle.sudoku.specs.Grid.{inRange, onGrid, cellOf}
 use Rattle.puzzle.specs.Refusals.{refusal, accepted}
@@ -58,7 +59,7 @@ unfoldable pub playersDigitQuestion : Board → ℕ → ℕ → YesNo
 playersDigitQuestion b row column = yesNo (cellNumber b row column) (holdsPlayersDigit (stateOf b) (cellOf row column))
 
 unfoldable pub statusQuestion : Board → YesNo
-statusQuestion b = yesNo (boardNumber b) (b .solved)
+statusQuestion b = yesNo (boardNumber b) (isOn (b .solved))
 
 unfoldable pub fullQuestion : Board → YesNo
 fullQuestion b = yesNo (boardNumber b) (isFull (b .digits))
@@ -68,11 +69,11 @@ consistentQuestion b = yesNo (boardNumber b) (isConsistent (b .digits))
 
 -- a move stands, and the board is not solved
 unfoldable pub canUndoQuestion : Board → YesNo
-canUndoQuestion b = yesNo (boardNumber b) (both (not (b .solved)) (ltb 0 (b .standing)))
+canUndoQuestion b = yesNo (boardNumber b) (both (not (isOn (b .solved))) (ltb 0 (b .standing)))
 
 -- a move is undone, and the board is not solved
 unfoldable pub canRedoQuestion : Board → YesNo
-canRedoQuestion b = yesNo (boardNumber b) (both (not (b .solved)) (ltb (b .standing) (b .made)))
+canRedoQuestion b = yesNo (boardNumber b) (both (not (isOn (b .solved))) (ltb (b .standing) (b .made)))
 
 -- keypad: 2 8; digits left for the key
 unfoldable pub keyNumber : Board → ℕ → ℕ

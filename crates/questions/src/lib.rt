@@ -15,6 +15,7 @@ use sudoku::in_range;
 use sudoku::on_grid;
 ghost use mathlib.Core.Path.{_≡_};
 ghost use mathlib.Core.Bool.{not};
+ghost use Rattle.puzzle.specs.Givens.{isOn};
 ghost use Rattle.sudoku.specs.Tests.{both};
 ghost use Rattle.board.specs.Board.{stateOf};
 ghost use Rattle.questions.specs.Questions.{boardNumber, cellNumber, keyNumber, yesNo, cellAnswer, noCell, cellQuestion, conflictsQuestion, acceptsMarksQuestion, playersDigitQuestion, statusQuestion, fullQuestion, consistentQuestion, canUndoQuestion, canRedoQuestion, leftQuestion};
@@ -170,7 +171,7 @@ pub fn holds_players_digit(board: Board, row: u8, column: u8) -> YesNo
 pub fn status(board: Board) -> YesNo
     ensures { λ r. ⌜ r ≡ statusQuestion board ⌝ }
 {
-    yes_no(board_number(board), board.solved)
+    yes_no(board_number(board), board.solved != 0)
 }
 
 // Whether every cell holds a digit.
@@ -191,10 +192,10 @@ pub fn is_consistent(board: Board) -> YesNo
 
 // Whether a move is there to be taken back or made again. On a solved board none is.
 fn unless_solved(board: Board, there: bool) -> YesNo
-    ensures { λ r. ⌜ r ≡ yesNo (boardNumber board) (both (not (board .solved)) there) ⌝ }
+    ensures { λ r. ⌜ r ≡ yesNo (boardNumber board) (both (not (isOn (board .solved))) there) ⌝ }
 {
     let number = board_number(board);
-    if board.solved {
+    if board.solved != 0 {
         return yes_no(number, false);
     }
     yes_no(number, there)

@@ -14,7 +14,7 @@ use Rattle.sudoku.proofs.Walks.{by-test, count-same}
 use Rattle.sudoku.proofs.Grid.{cell-to, is-cell, cell-of-is-cell, row-of-cell, column-of-cell}
 use Rattle.sudoku.proofs.Each.{Each}
 use Rattle.puzzle.specs.declared.Given.{Given}
-use Rattle.puzzle.specs.Givens.{given, digitsOf, givenCells}
+use Rattle.puzzle.specs.Givens.{isSet, given, digitsOf, givenCells}
 use Rattle.puzzle.proofs.Givens.{cellIn, OnGrid, Rising, marked, digitFor, given-at, digit-at, rising-unmarked, rising-on, rising-rest, marked-here, marked-beyond, digit-here, digit-beyond, given-count}
 use Rattle.journal.specs.State.{isGiven}
 use Rattle.board.specs.declared.Board.{Board}
@@ -93,7 +93,7 @@ module _ (gs : List Given) (ps : Each OnGrid gs) (r : Rising 0 gs) (b : Board) (
   -- a cell of the board is a given exactly where a given stands
   pub is-given : (cell : ℕ) → isCell cell ≡ true → isGiven (stateOf b) cell ≡ marked gs cell
   unfolding isGiven stateOf
-  is-given cell q = ap (λ (l : List Bool). getD l (cell - 1) false) same ∙ given-at gs cell ps q
+  is-given cell q = ap (λ (l : List ℕ). isSet l cell) same ∙ given-at gs cell ps q
 
   -- the board has the givens that it was opened with
   pub givens-kept : ((cell : ℕ) → isCell cell ≡ true → marked gs cell ≡ true → at (b .digits) cell ≡ at (digitsOf gs) cell) → givensOf b ≡ gs
@@ -114,7 +114,7 @@ module _ (gs : List Given) (ps : Each OnGrid gs) (r : Rising 0 gs) (b : Board) (
       omega (
         arith,
         count-not (λ cell. isGiven (stateOf b) cell) 81 1,
-        count-same (λ cell. isGiven (stateOf b) cell) (λ cell. getD (givenCells gs) (cell - 1) false) 81 1
-            (λ k l u. ap (λ (l : List Bool). getD l (k - 1) false) same),
+        count-same (λ cell. isGiven (stateOf b) cell) (isSet (givenCells gs)) 81 1
+            (λ k l u. ap (λ (l : List ℕ). isSet l k) same),
         given-count gs ps r,
       )

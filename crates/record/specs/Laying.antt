@@ -12,7 +12,7 @@ use Rattle.record.specs.Items.{encodeAll, givenItem, checkItem}
 use Rattle.record.specs.Write.{givensOf, movesOf, askedOf}
 
 -- the item of a cell's given; no bytes where it is none
-unfoldable pub givenBytes : List Bool → List ℕ → ℕ → List ℕ
+unfoldable pub givenBytes : List ℕ → List ℕ → ℕ → List ℕ
 givenBytes given digits cell =
     pick (isGiven (givensOnly given) cell) (1 ∷ rowOf cell ∷ columnOf cell ∷ at digits cell ∷ []) []
 

@@ -11,7 +11,7 @@ use Rattle.sudoku.specs.Grid.{inRange, onGrid, cellOf}
 use Rattle.puzzle.specs.declared.Given.{Given as Setters}
 use Rattle.puzzle.specs.declared.Refusal.{Refusal}
 use Rattle.puzzle.specs.Refusals.{refusal, accepted, isAccepted, refusedIf, orElse}
-use Rattle.puzzle.specs.Givens.{ascending}
+use Rattle.puzzle.specs.Givens.{isOn, ascending}
 use Rattle.puzzle.specs.Vouch.{vouch}
 use Rattle.journal.specs.declared.Move.{Move}
 use Rattle.journal.specs.Limits.{maxMoves, maxChecks}
@@ -58,7 +58,7 @@ replay b journal k [] = played accepted b journal
 replay b journal k (m ∷ ms) =
     let n = first (moveTests (stateOf b) m) in
     let next = recordMove b journal m in
-    pick (b .solved) (played (refusal 28 k 0) b journal)
+    pick (isOn (b .solved)) (played (refusal 28 k 0) b journal)
     (pick (eqb n 0) (replay (next .answer .board) (next .journal) (suc k) ms) (played (refusal 29 k n) b journal))
 
 -- taking back n is one undo and then taking back n less one
@@ -104,7 +104,7 @@ unfoldable pub settledRecord : Parts → Board → List ℕ → Opened
 settledRecord p b journal =
     let back = takeBackAll (p .undone) b journal in
     let r =
-    orElse (refusedIf (both (b .solved) (not (eqb (p .undone) 0))) (refusal 30 0 0))
+    orElse (refusedIf (both (isOn (b .solved)) (not (eqb (p .undone) 0))) (refusal 30 0 0))
     (checksRefusal b (toPlay b) 1 (p .checks))
     in
     pick (isAccepted r) (reopened back journal (p .checks)) (turnedAway r)

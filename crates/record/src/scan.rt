@@ -12,7 +12,7 @@ use puzzle::Refusal;
 use puzzle::answer::accepted;
 use puzzle::answer::refusal;
 use puzzle::given_bytes::is_ascending;
-use puzzle::proof::vouch;
+use puzzle::vouch::vouch;
 ghost use mathlib.Core.Path.{_≡_};
 ghost use mathlib.Core.Bool.{not};
 ghost use lib.Dec.{leb};

@@ -35,7 +35,7 @@ ghost use Rattle.record.specs.Write.{partsOf, askedAt, unsoundCheck as u
 ghost use Rattle.record.specs.Laying.{givenBytes, givensBytes, movesBytes, checksBytes};
 
 // 14 of stored check n, with inner 1.
-fn unsound_check(given: &[bool; 81], checks: &[u8], n: usize) -> Refusal
+fn unsound_check(given: &[u8; 81], checks: &[u8], n: usize) -> Refusal
     ensures { λ r. ⌜ r ≡ unsoundCheckOf (givensOnly (now (given .entry))) (now (checks .entry)) n ⌝ }
 {
     if is_sound_check(given, checks, n) {
@@ -45,7 +45,7 @@ fn unsound_check(given: &[bool; 81], checks: &[u8], n: usize) -> Refusal
 }
 
 // 14 of the stored checks.
-fn unsound_checks(given: &[bool; 81], checks: &[u8], count: usize) -> Refusal
+fn unsound_checks(given: &[u8; 81], checks: &[u8], count: usize) -> Refusal
     requires { ⌜ count ≤ maxChecks ⌝ }
     ensures { λ r. ⌜ r ≡ firstRefused (unsoundCheckOf (givensOnly (now (given .entry))) (now (checks .entry))) count 1 ⌝ }
 {
@@ -81,7 +81,7 @@ fn unwritable(board: Board, journal: &[u8], checks: &[u8]) -> Refusal
 }
 
 // How many cells hold a given.
-pub fn count_givens(given: &[bool; 81]) -> usize
+pub fn count_givens(given: &[u8; 81]) -> usize
     ensures { λ r. ⌜ (r ≡ countOf (isGiven (givensOnly (now (given .entry)))) 81 1) × (r ≤ 81) ⌝ }
 {
     let mut n: usize = 0;
@@ -166,7 +166,7 @@ fn lay_four(output: &mut [u8], at: usize, a: u8, b: u8, c: u8, d: u8) -> usize
 
 // The item of a cell's given; nothing where it is none.
 fn lay_given<'a>(
-    given: &'a [bool; 81],
+    given: &'a [u8; 81],
     digits: &'a [u8; 81],
     cell: usize,
     output: &mut [u8],

@@ -1,4 +1,4 @@
 // Lays out a record with its solution: the puzzle, every move and check, the final board.
 fn main() {
-    review::run();
+    report::run();
 }

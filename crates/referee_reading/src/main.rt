@@ -1,4 +1,4 @@
 // The referee, run for the reading of one move.
 fn main() {
-    review::run();
+    report::run();
 }

@@ -1,4 +1,4 @@
 // The referee, run on a record that does not reopen.
 fn main() {
-    review::run();
+    report::run();
 }

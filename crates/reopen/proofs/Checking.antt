@@ -10,6 +10,7 @@ use native.Mathlib.Omega.{arith}
 use borrow.Author.Tests.{eqb-false, eq-eqb, ne-eqb}
 use lib.Dec.{eqb}
 use lib.ListN.{length, getD}
+use Rattle.puzzle.specs.Givens.{isSet}
 use Rattle.sudoku.specs.Tests.{_⇒_, first, both, count, listed}
 use Rattle.sudoku.specs.Grid.{inRange, onGrid, cellOf}
 use Rattle.sudoku.proofs.Walks.{not-is-true, not-is-false, both-true, both-false-left, both-false-right, left-one, count-same}
@@ -167,7 +168,7 @@ module _ (bytes : List ℕ) (start count k : ℕ) (h : count + 1 ≤ k) where
 module _ (b c : Board) (g : b .given ≡ c .given) (s : b .solution ≡ c .solution) where
   pub to-play-same : toPlay b ≡ toPlay c
   unfolding toPlay isGiven stateOf
-  to-play-same = ap (λ (l : List Bool). count (λ cell. not (getD l (cell - 1) false)) 81 1) g
+  to-play-same = ap (λ (l : List ℕ). count (λ cell. not (isSet l cell)) 81 1) g
 
   check-same : (cells k : ℕ) (a : Asked) → checkRefusal b cells k a ≡ checkRefusal c cells k a
   unfolding checkRefusal isGiven stateOf
@@ -179,14 +180,14 @@ module _ (b c : Board) (g : b .given ≡ c .given) (s : b .solution ≡ c .solut
       (eqb
       (first
       ((not (onGrid (a .row) (a .column)) ⇒ 3)
-      ∷ (getD (g j) (cellOf (a .row) (a .column) - 1) false ⇒ 5)
+      ∷ (isSet (g j) (cellOf (a .row) (a .column)) ⇒ 5)
       ∷ (not (inRange (a .digit)) ⇒ 8)
       ∷ []))
       0))
       (refusal 31 k
       (first
       ((not (onGrid (a .row) (a .column)) ⇒ 3)
-      ∷ (getD (g j) (cellOf (a .row) (a .column) - 1) false ⇒ 5)
+      ∷ (isSet (g j) (cellOf (a .row) (a .column)) ⇒ 5)
       ∷ (not (inRange (a .digit)) ⇒ 8)
       ∷ []))))
       (orElse (refusedIf (eqb (a .standing) 0) (refusal 32 k 0))

@@ -8,6 +8,7 @@ use native.Mathlib.Numerals.{add-one}
 use native.Mathlib.Omega.{arith}
 use lib.Dec.{leb, eqb}
 use lib.ListN.{length}
+use Rattle.puzzle.specs.Givens.{isOn}
 use Rattle.sudoku.specs.Tests.{first, pick}
 use Rattle.sudoku.proofs.Walks.{by-test, pick-true, pick-false, left-one}
 use Rattle.puzzle.specs.declared.Refusal.{Refusal}
@@ -42,7 +43,7 @@ module _ (b : Board) (journal : List ℕ) (k : ℕ) (m : Move) where
   pub next-stops : (nextRefusal (stateOf b) k m .number ≡ 0 → ⊥) → performed b journal k m ≡ played (nextRefusal (stateOf b) k m) b journal
   unfolding performed nextRefusal stateOf
   next-stops h =
-      by-test (b .solved)
+      by-test (isOn (b .solved))
       (λ t. pick-true _ _ _ t ∙ sym (ap (λ (r : Refusal). played r b journal) (pick-true _ _ _ t)))
       (λ t.
       by-test (eqb number 0)
@@ -52,25 +53,25 @@ module _ (b : Board) (journal : List ℕ) (k : ℕ) (m : Move) where
   pub next-goes-on : nextRefusal (stateOf b) k m .number ≡ 0 → performed b journal k m ≡ recordMove b journal m
   unfolding performed nextRefusal stateOf
   next-goes-on h =
-      by-test (b .solved)
+      by-test (isOn (b .solved))
       (λ t.
-      let no : 28 ≡ 0 = sym (ap (λ (r : Refusal). r .number) (pick-true (b .solved) (refusal 28 k 0) (pick (eqb number 0) accepted (refusal 29 k number)) t)) ∙ h in
+      let no : 28 ≡ 0 = sym (ap (λ (r : Refusal). r .number) (pick-true (isOn (b .solved)) (refusal 28 k 0) (pick (eqb number 0) accepted (refusal 29 k number)) t)) ∙ h in
       absurd (omega (arith, no)))
       (λ t.
       by-test (eqb number 0)
       (λ u. pick-false _ _ _ t ∙ pick-true _ _ _ u)
       (λ u.
-      let no : 29 ≡ 0 = sym (ap (λ (r : Refusal). r .number) (pick-false (b .solved) (refusal 28 k 0) (pick (eqb number 0) accepted (refusal 29 k number)) t ∙ pick-false (eqb number 0) accepted (refusal 29 k number) u)) ∙ h in
+      let no : 29 ≡ 0 = sym (ap (λ (r : Refusal). r .number) (pick-false (isOn (b .solved)) (refusal 28 k 0) (pick (eqb number 0) accepted (refusal 29 k number)) t ∙ pick-false (eqb number 0) accepted (refusal 29 k number) u)) ∙ h in
       absurd (omega (arith, no))))
 
   -- by these cases
-  by-move : {A : Type 0} → (b .solved ≡ true → performed b journal k m ≡ played (refusal 28 k 0) b journal → A)
-      → (b .solved ≡ false → eqb number 0 ≡ false → performed b journal k m ≡ played (refusal 29 k number) b journal → A)
-      → (b .solved ≡ false → eqb number 0 ≡ true → performed b journal k m ≡ recordMove b journal m → A)
+  by-move : {A : Type 0} → (isOn (b .solved) ≡ true → performed b journal k m ≡ played (refusal 28 k 0) b journal → A)
+      → (isOn (b .solved) ≡ false → eqb number 0 ≡ false → performed b journal k m ≡ played (refusal 29 k number) b journal → A)
+      → (isOn (b .solved) ≡ false → eqb number 0 ≡ true → performed b journal k m ≡ recordMove b journal m → A)
       → A
   unfolding performed
   by-move f g h =
-      by-test (b .solved) (λ t. f t (pick-true _ _ _ t))
+      by-test (isOn (b .solved)) (λ t. f t (pick-true _ _ _ t))
       (λ t.
       by-test (eqb number 0) (λ u. h t u (pick-false _ _ _ t ∙ pick-true _ _ _ u)) (λ u. g t u (pick-false _ _ _ t ∙ pick-false _ _ _ u)))
 

@@ -14,7 +14,7 @@ use Rattle.sudoku.proofs.Each.{Each}
 use Rattle.puzzle.specs.declared.Layout.the-variants.{Items}
 use Rattle.puzzle.specs.declared.Refusal.{Refusal}
 use Rattle.puzzle.specs.Refusals.{refusal, accepted, isAccepted, refusedIf, orElse}
-use Rattle.puzzle.specs.Givens.{givensIn}
+use Rattle.puzzle.specs.Givens.{isOn, givensIn}
 use Rattle.puzzle.specs.Rows.{rowsOf, flat}
 use Rattle.puzzle.proofs.Accepted.{if-not, or-else-left, or-else-right}
 use Rattle.puzzle.proofs.Refusals.{refused-if, or-else-by, or-else-past}
@@ -92,7 +92,7 @@ back-kept (suc n) b journal =
 
 module _ (undone : ℕ) (cs : List Asked) (b : Board) (journal : List ℕ) where
   abbrev late : Bool
-  late = both (b .solved) (not (eqb undone 0))
+  late = both (isOn (b .solved)) (not (eqb undone 0))
 
   pub settled-30 : late ≡ true → settledBy undone cs b journal ≡ turnedAway (refusal 30 0 0)
   unfolding settledBy settledRecord isAccepted

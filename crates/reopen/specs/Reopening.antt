@@ -6,6 +6,7 @@ use mathlib.Core.Bool.{Bool, not}
 use mathlib.Core.List.{List, [], _∷_}
 use lib.Dec.{eqb}
 use lib.ListN.{length}
+use Rattle.puzzle.specs.Givens.{isOn}
 use Rattle.sudoku.specs.Tests.{_⇒_, first, pick, listed}
 use Rattle.sudoku.specs.Grid.{inRange, onGrid, cellOf}
 use Rattle.puzzle.specs.declared.Refusal.{Refusal}
@@ -37,17 +38,17 @@ asksAt bytes start n = listed (λ k. askedFrom bytes (start + 6 * (k - 1))) n 1
 unfoldable pub nextRefusal : State → ℕ → Move → Refusal
 nextRefusal s k m =
     let n = first (moveTests s m) in
-    pick (s .solved) (refusal 28 k 0) (pick (eqb n 0) accepted (refusal 29 k n))
+    pick (isOn (s .solved)) (refusal 28 k 0) (pick (eqb n 0) accepted (refusal 29 k n))
 
 -- move k: 28, 29, or performed and recorded
 unfoldable pub performed : Board → List ℕ → ℕ → Move → Played
 performed b journal k m =
     let n = first (moveTests (stateOf b) m) in
-    pick (b .solved) (played (refusal 28 k 0) b journal)
+    pick (isOn (b .solved)) (played (refusal 28 k 0) b journal)
     (pick (eqb n 0) (recordMove b journal m) (played (refusal 29 k n) b journal))
 
 -- 3, 5 or 8 of a check, 0 where none applies
-unfoldable pub checkNumber : List Bool → Asked → ℕ
+unfoldable pub checkNumber : List ℕ → Asked → ℕ
 checkNumber given c =
     first
     ((not (onGrid (c .row) (c .column)) ⇒ 3)

@@ -1,5 +1,5 @@
 // Reopening a record: the givens opened, all moves performed (28, 29), the undone ones taken back (30), then the checks (31 to 33).
-use back::undo;
+use undo::undo;
 use board::Answer;
 use board::Board;
 use board::open::clear;
@@ -38,6 +38,7 @@ ghost use mathlib.Core.List.{map};
 ghost use Prim.Native.Nat.{_+_, _-_, _*_, _≤_, _<_};
 ghost use lib.Dec.{eqb};
 ghost use lib.ListN.{length};
+ghost use Rattle.puzzle.specs.Givens.{isOn};
 ghost use Rattle.sudoku.specs.Tests.{both};
 ghost use Rattle.journal.specs.Limits.{maxMoves, maxChecks, journalBytes, checkMemory};
 ghost use Rattle.journal.specs.Bytes.{over};
@@ -51,15 +52,15 @@ ghost use Rattle.reopen.specs.Reopening.{movesAt, asksAt, nextRefusal, p
 // Why move k is refused, asked of a board's parts: 28 before 29.
 fn next_refusal<'a>(
     digits: &'a [u8; 81],
-    given: &'a [bool; 81],
+    given: &'a [u8; 81],
     notes: &'a [u16; 81],
-    solved: bool,
+    solved: u8,
     k: usize,
     m: Move,
 ) -> Refusal
     ensures { λ r. ⌜ r ≡ nextRefusal (parts (now (given .entry)) (now (digits .entry)) (now (notes .entry)) solved) k m ⌝ }
 {
-    if solved {
+    if solved != 0 {
         return refusal(28, k, 0);
     }
     let n = number_of_move(digits, given, notes, solved, m);
@@ -149,7 +150,7 @@ fn to_play(board: Board) -> usize
 }
 
 // 3, 5 or 8 of a check.
-fn check_number(given: &[bool; 81], asked: Asked) -> u8
+fn check_number(given: &[u8; 81], asked: Asked) -> u8
     ensures { λ r. ⌜ r ≡ checkNumber (now (given .entry)) asked ⌝ }
 {
     if !on_grid(asked.row, asked.column) {
@@ -234,10 +235,10 @@ fn read_checks(bytes: &[u8], start: usize, count: usize, board: Board, checks: &
 }
 
 // Whether 30 applies: a solved board with undone moves.
-fn is_undone_solved(solved: bool, undone: usize) -> bool
-    ensures { λ r. ⌜ r ≡ both solved (not (eqb undone 0)) ⌝ }
+fn is_undone_solved(solved: u8, undone: usize) -> bool
+    ensures { λ r. ⌜ r ≡ both (isOn solved) (not (eqb undone 0)) ⌝ }
 {
-    if solved {
+    if solved != 0 {
         return undone != 0;
     }
     false

@@ -97,38 +97,38 @@ unfoldable pub markSign : ℕ → ℕ → ℕ
 markSign note spot = pick (contains note spot) (figure spot) (pick (either (eqb spot 0) (isEmpty note)) blank noMarkSign)
 
 -- a note under a digit is kept and not shown
-unfoldable pub cellSign : List ℕ → List Bool → List ℕ → ℕ → ℕ → ℕ
+unfoldable pub cellSign : List ℕ → List ℕ → List ℕ → ℕ → ℕ → ℕ
 cellSign digits given notes cell spot =
     pick (holdsDigit digits cell)
     (digitSign (at digits cell) (isGiven (givensOnly given) cell) (conflicts digits cell) spot)
     (markSign (at notes cell) spot)
 
-unfoldable pub signAt : List ℕ → List Bool → List ℕ → Spot → ℕ
+unfoldable pub signAt : List ℕ → List ℕ → List ℕ → Spot → ℕ
 signAt digits given notes (Frame sign) = sign
 signAt digits given notes (Inside cell spot) = cellSign digits given notes cell spot
 
 -- character n of the drawn board
-unfoldable pub signOf : List ℕ → List Bool → List ℕ → ℕ → ℕ
+unfoldable pub signOf : List ℕ → List ℕ → List ℕ → ℕ → ℕ
 signOf digits given notes n = signAt digits given notes (placed (n / width) (n % width))
 
 -- the drawn board
-unfoldable pub pictureOf : List ℕ → List Bool → List ℕ → List ℕ
+unfoldable pub pictureOf : List ℕ → List ℕ → List ℕ → List ℕ
 pictureOf digits given notes = listed (signOf digits given notes) size 0
 
 -- colours: 0 none, 1 a given, 2 a player's digit, 3 a cell that conflicts, 4 marks
-unfoldable pub cellColour : List ℕ → List Bool → ℕ → ℕ
+unfoldable pub cellColour : List ℕ → List ℕ → ℕ → ℕ
 cellColour digits given cell =
     pick (holdsDigit digits cell)
     (pick (conflicts digits cell) 3 (pick (isGiven (givensOnly given) cell) 1 2))
     4
 
-unfoldable pub colourAt : List ℕ → List Bool → Spot → ℕ
+unfoldable pub colourAt : List ℕ → List ℕ → Spot → ℕ
 colourAt digits given (Frame sign) = 0
 colourAt digits given (Inside cell spot) = cellColour digits given cell
 
-unfoldable pub colourOf : List ℕ → List Bool → ℕ → ℕ
+unfoldable pub colourOf : List ℕ → List ℕ → ℕ → ℕ
 colourOf digits given n = colourAt digits given (placed (n / width) (n % width))
 
 -- the colour of each character of the drawn board
-unfoldable pub coloursOf : List ℕ → List Bool → List ℕ
+unfoldable pub coloursOf : List ℕ → List ℕ → List ℕ
 coloursOf digits given = listed (colourOf digits given) size 0

@@ -203,7 +203,7 @@ fn mark_sign(note: u16, spot: u8) -> u8
 // A spot of a cell. A note under a digit is kept and not shown.
 fn cell_sign<'a>(
     digits: &'a [u8; 81],
-    given: &'a [bool; 81],
+    given: &'a [u8; 81],
     notes: &'a [u16; 81],
     cell: usize,
     spot: u8,
@@ -222,7 +222,7 @@ fn cell_sign<'a>(
 }
 
 // Character n of the drawn board.
-fn sign<'a>(digits: &'a [u8; 81], given: &'a [bool; 81], notes: &'a [u16; 81], n: usize) -> u8
+fn sign<'a>(digits: &'a [u8; 81], given: &'a [u8; 81], notes: &'a [u16; 81], n: usize) -> u8
     requires { ⌜ n < 2379 ⌝ }
     ensures { λ r. ⌜ r ≡ signOf (now (digits .entry)) (now (given .entry)) (now (notes .entry)) n ⌝ }
 {
@@ -234,7 +234,7 @@ fn sign<'a>(digits: &'a [u8; 81], given: &'a [bool; 81], notes: &'a [u16; 81], n
 }
 
 // The drawn board.
-pub fn picture<'a>(digits: &'a [u8; 81], given: &'a [bool; 81], notes: &'a [u16; 81]) -> [u8; 2379]
+pub fn picture<'a>(digits: &'a [u8; 81], given: &'a [u8; 81], notes: &'a [u16; 81]) -> [u8; 2379]
     ensures { λ r. ⌜ r ≡ pictureOf (now (digits .entry)) (now (given .entry)) (now (notes .entry)) ⌝ }
 {
     let mut out = [0u8; SIZE];
@@ -247,7 +247,7 @@ pub fn picture<'a>(digits: &'a [u8; 81], given: &'a [bool; 81], notes: &'a [u16;
 }
 
 // The colour of a cell.
-fn cell_colour<'a>(digits: &'a [u8; 81], given: &'a [bool; 81], cell: usize) -> u8
+fn cell_colour<'a>(digits: &'a [u8; 81], given: &'a [u8; 81], cell: usize) -> u8
     ensures { λ r. ⌜ r ≡ cellColour (now (digits .entry)) (now (given .entry)) cell ⌝ }
 {
     if !holds_digit(digits, cell) {
@@ -263,7 +263,7 @@ fn cell_colour<'a>(digits: &'a [u8; 81], given: &'a [bool; 81], cell: usize) -> 
 }
 
 // The colour of character n of the drawn board.
-fn colour<'a>(digits: &'a [u8; 81], given: &'a [bool; 81], n: usize) -> u8
+fn colour<'a>(digits: &'a [u8; 81], given: &'a [u8; 81], n: usize) -> u8
     requires { ⌜ n < 2379 ⌝ }
     ensures { λ r. ⌜ r ≡ colourOf (now (digits .entry)) (now (given .entry)) n ⌝ }
 {
@@ -275,7 +275,7 @@ fn colour<'a>(digits: &'a [u8; 81], given: &'a [bool; 81], n: usize) -> u8
 }
 
 // The colour of each character of the drawn board.
-pub fn colours<'a>(digits: &'a [u8; 81], given: &'a [bool; 81]) -> [u8; 2379]
+pub fn colours<'a>(digits: &'a [u8; 81], given: &'a [u8; 81]) -> [u8; 2379]
     ensures { λ r. ⌜ r ≡ coloursOf (now (digits .entry)) (now (given .entry)) ⌝ }
 {
     let mut out = [0u8; SIZE];

@@ -17,8 +17,8 @@ use print::shown;
 use puzzle::byte_at;
 use texts::Command;
 use texts::grids::cells;
-use texts::orders::same;
-use texts::orders::taken_apart;
+use texts::commands::same;
+use texts::commands::taken_apart;
 use texts::part;
 
 // The solution of the puzzle that is built in.

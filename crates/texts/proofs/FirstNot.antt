@@ -1,4 +1,4 @@
--- The laws of `firstNot` of specs/Orders for a loop that looks at one place a turn.
+-- The laws of `firstNot` of specs/Commands for a loop that looks at one place a turn.
 -- Assumes nothing.
 use Prim.Native.Nat.{ℕ, _+_, _-_, _≤_, _<_}
 use mathlib.Core.Path.{_≡_, sym, ap, _∙_}
@@ -7,7 +7,7 @@ use native.Mathlib.Nat.{sub-eq-zero-of-le}
 use native.Mathlib.Numerals.{add-one}
 use Rattle.sudoku.specs.Tests.{pick}
 use Rattle.sudoku.proofs.Walks.{left-one, pick-true, pick-false}
-use Rattle.texts.specs.Orders.{firstNot}
+use Rattle.texts.specs.Commands.{firstNot}
 
 module _ (f : ℕ → Bool) (e i : ℕ) where
   looked : i < e → firstNot f (e - i) i ≡ pick (f i) (firstNot f (e - (i + 1)) (i + 1)) i

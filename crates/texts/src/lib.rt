@@ -3,7 +3,7 @@ ghost use mathlib.Core.Path.{_≡_};
 ghost use Rattle.texts.specs.Parts.{partOf};
 
 pub mod grids;
-pub mod orders;
+pub mod commands;
 
 // The cells of a text: how many there are (82 where there are more than 81), the first 81 of them, and the first character that is neither a cell nor white space, counted from 1; 0 where there is none.
 pub struct Cells {

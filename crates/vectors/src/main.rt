@@ -9,7 +9,7 @@ use journal::MAX_MOVES;
 use journal::SLOT_BYTES;
 use libc::STDIN_FILENO;
 use libc::STDOUT_FILENO;
-use moves::Reading;
+use readings::Reading;
 use puzzle::Refusal;
 use puzzle::byte_at;
 use puzzle::digit_at;
@@ -302,7 +302,7 @@ fn reading_differs(reading: Reading, block: &[u8], at: usize) -> usize {
 }
 
 fn one_reading(block: &[u8], walk: Walk, journal: &[u8]) -> Walk {
-    let answer = moves::read::reading(walk.board, journal, number_at(block, walk.at));
+    let answer = readings::read::reading(walk.board, journal, number_at(block, walk.at));
     let wrong = reading_differs(answer, block, walk.at);
     let mut next = found(walk, wrong, 250);
     next.readings = plus(walk.readings, 1);

@@ -3,38 +3,33 @@
 use mathlib.Core.Path.{sym, _∙_}
 use borrow.Author.Tests.{not-true, not-false}
 use borrow.Author.Needs.{needs}
-use Rattle.sudoku.proofs.Walks.{either-left, either-second, both-first, both-false-left}
+use Rattle.sudoku.proofs.Walks.{pick-true, pick-false, both-true, both-false-left, both-false-right}
 use Rattle.puzzle.specs.Puzzle.{settled, isFull, isConsistent}
 use Rattle.puzzle.proofs.settled.Statement.{statement}
 use Rattle.puzzle.proofs.settled.Tie as tie
 
-returns : tie.Need-returns
-unfolding settled
-returns c = sym (either-left (c .before .args .solved) _ (c .if1 .taken))
-
 is-full-requires : tie.Need-is-full-requires
 is-full-requires c κs = search needs
 
-returns-2 : tie.Need-returns-2
+returns : tie.Need-returns
 unfolding settled
-returns-2 c =
-    let a = c .before .before .before .args in
-    sym
-    (either-second (a .solved) _ (c .before .before .if1 .left)
-    ∙ both-false-left (isFull (a .digits .now)) (isConsistent (a .digits .now)) (sym (c .before .is-full .ensures) ∙ not-true _ (c .if2 .taken)))
+returns c =
+    sym (pick-false _ 1 _ (both-false-left (isFull (c .before .before .args .digits .now)) (isConsistent (c .before .before .args .digits .now)) (sym (c .before .is-full .ensures) ∙ not-true _ (c .if1 .taken))))
 
 is-consistent-requires : tie.Need-is-consistent-requires
 is-consistent-requires c κs = search needs
 
+returns-2 : tie.Need-returns-2
+unfolding settled
+returns-2 c =
+    sym (pick-false _ 1 _ (both-false-right (isFull (c .before .before .before .before .args .digits .now)) (isConsistent (c .before .before .before .before .args .digits .now)) (sym (c .before .is-consistent .ensures) ∙ not-true _ (c .if2 .taken))))
+
 returns-3 : tie.Need-returns-3
 unfolding settled
 returns-3 c =
-    let a = c .before .before .before .before .args in
-    c .is-consistent .ensures
-    ∙ sym (either-second (a .solved) _ (c .before .before .before .if1 .left)
-    ∙ both-first (isFull (a .digits .now)) (isConsistent (a .digits .now))
-    (sym (c .before .before .is-full .ensures) ∙ not-false _ (c .before .if2 .left)))
+    sym (pick-true _ 1 _ (both-true (isFull (c .before .before .before .before .args .digits .now)) (isConsistent (c .before .before .before .before .args .digits .now))
+    (sym (c .before .before .before .is-full .ensures) ∙ not-false _ (c .before .before .if1 .left)) (sym (c .before .is-consistent .ensures) ∙ not-false _ (c .if2 .left))))
 
 pub settled-spec : {M : Type 1} → statement M
 settled-spec =
-    tie.close (tie.spec returns is-full-requires returns-2 is-consistent-requires returns-3)
+    tie.close (tie.spec is-full-requires returns is-consistent-requires returns-2 returns-3)

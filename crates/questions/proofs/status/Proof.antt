@@ -13,7 +13,7 @@ yes-no-requires c κs = search needs
 
 returns : tie.Need-returns
 unfolding statusQuestion
-returns c = rw (c .yes-no .ensures, c .before .board-number .ensures)
+returns c = rw (c .yes-no .ensures, c .before .before .board-number .ensures)
 
 pub status-spec : {M : Type 1} → statement M
 status-spec = tie.close (tie.spec board-number-requires yes-no-requires returns)

@@ -11,7 +11,7 @@ use borrow.Fn.PlainCycle.{Measures, is, falls, and}
 use Rattle.reopen.proofs.take_back_all.Reads as take-back-all
 use Rattle.reopen.proofs.take_back_all.Kinds as take-back-all-kinds
 use Rattle.reopen.proofs.+take_back_all.Lts-take_back_all as take-back-all-lts
-use Rattle.back.proofs.undo.Reads as undo-reads
+use Rattle.undo.proofs.undo.Reads as undo-reads
 use Rattle.reopen.proofs.+take_back_all.{statement}
 use Rattle.reopen.proofs.+take_back_all.Tie.{close}
 

@@ -1,6 +1,7 @@
 -- `reopen::next_refusal` meets its contract.
 -- Assumes nothing.
 use mathlib.Core.Path.{sym, ap, _∙_}
+use mathlib.Core.Bool.{not}
 use borrow.Author.Tests.{eq-eqb, ne-eqb}
 use Rattle.sudoku.proofs.Walks.{pick-true, pick-false}
 use Rattle.puzzle.specs.Refusals.{refusal}
@@ -14,7 +15,7 @@ refusal-requires c κs = search needs
 
 returns : tie.Need-returns
 unfolding nextRefusal
-returns c = c .refusal .ensures ∙ sym (pick-true _ _ _ (c .before .if1 .taken))
+returns c = c .refusal .ensures ∙ sym (pick-true _ _ _ (ap not (ne-eqb _ _ (c .before .if1 .taken))))
 
 number-of-move-requires : tie.Need-number-of-move-requires
 number-of-move-requires c κs = search needs
@@ -27,14 +28,14 @@ unfolding nextRefusal
 returns-2 c =
     c .refusal2 .ensures
     ∙ ap (λ n. refusal 29 (c .before .before .before .before .args .k) n) (c .before .before .number-of-move .ensures)
-    ∙ sym (pick-false _ _ _ (c .before .before .before .if1 .left) ∙ pick-false _ _ _ (ne-eqb _ _ (λ e. c .before .if2 .taken (c .before .before .number-of-move .ensures ∙ e))))
+    ∙ sym (pick-false _ _ _ (ap not (eq-eqb _ _ (c .before .before .before .if1 .left))) ∙ pick-false _ _ _ (ne-eqb _ _ (λ e. c .before .if2 .taken (c .before .before .number-of-move .ensures ∙ e))))
 
 accepted-requires : tie.Need-accepted-requires
 accepted-requires c κs = search needs
 
 returns-3 : tie.Need-returns-3
 unfolding nextRefusal
-returns-3 c = c .accepted .ensures ∙ sym (pick-false _ _ _ (c .before .before .before .if1 .left) ∙ pick-true _ _ _ (eq-eqb _ _ (sym (c .before .before .number-of-move .ensures) ∙ c .before .if2 .left)))
+returns-3 c = c .accepted .ensures ∙ sym (pick-false _ _ _ (ap not (eq-eqb _ _ (c .before .before .before .if1 .left))) ∙ pick-true _ _ _ (eq-eqb _ _ (sym (c .before .before .number-of-move .ensures) ∙ c .before .if2 .left)))
 
 pub next-refusal-spec : {M : Type 1} → statement M
 next-refusal-spec = tie.close (tie.spec refusal-requires returns number-of-move-requires refusal-requires-2 returns-2 accepted-requires returns-3)

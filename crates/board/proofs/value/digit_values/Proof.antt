@@ -10,15 +10,15 @@ use lib.Dec.{leb, eqb}
 use lib.ListN.{getD}
 use Rattle.sudoku.specs.Tests.{both, either, every}
 use Rattle.board.specs.Board.{digitValue}
-use Rattle.board.proofs.Values.{at-next, flag-next, turn, at-end}
+use Rattle.board.proofs.Values.{at-next, set-next, turn, at-end}
 use Rattle.board.proofs.value.digit_values.Statement.{statement}
 use Rattle.board.proofs.value.digit_values.Tie as tie
 
 -- of cell i + 1, by what stands at i
-here : (digits : List ℕ) (given : List Bool) (i : ℕ)
-    → digitValue digits given (i + 1) ≡ both (leb (getD digits i 0) 9) (either (not (getD given i false)) (not (eqb (getD digits i 0) 0)))
+here : (digits given : List ℕ) (i : ℕ)
+    → digitValue digits given (i + 1) ≡ both (leb (getD digits i 0) 9) (both (leb (getD given i 0) 1) (leb (getD given i 0) (getD digits i 0)))
 unfolding digitValue
-here digits given i = rw (at-next digits i, flag-next given i)
+here digits given i = rw (at-next digits i, at-next given i)
 
 abbrev Inv-loop : tie.InvT-loop
 Inv-loop digits given ok₀ i₀ ok i =

@@ -27,58 +27,68 @@ module _ (b : Board) where
       too-many-checks h = rw (le-leb _ _ m, le-leb _ _ s, lt-leb _ _ h)
 
       module _ (k : b .checks ≤ 256) where
+        no-status : 1 < b .solved → isBoard b ≡ false
+        unfolding isBoard both
+        no-status h = rw (le-leb _ _ m, le-leb _ _ s, le-leb _ _ k, lt-leb _ _ h)
+
+      module _ (k : b .checks ≤ 256) (o : b .solved ≤ 1) where
         no-digits : every (digitValue (b .digits) (b .given)) 81 1 ≡ false → isBoard b ≡ false
         unfolding isBoard both
-        no-digits h = rw (le-leb _ _ m, le-leb _ _ s, le-leb _ _ k, h)
+        no-digits h = rw (le-leb _ _ m, le-leb _ _ s, le-leb _ _ k, le-leb _ _ o, h)
 
         module _ (d : every (digitValue (b .digits) (b .given)) 81 1 ≡ true) where
           no-notes : every (noteValue (b .notes)) 81 1 ≡ false → isBoard b ≡ false
           unfolding isBoard both
-          no-notes h = rw (le-leb _ _ m, le-leb _ _ s, le-leb _ _ k, d, h)
+          no-notes h = rw (le-leb _ _ m, le-leb _ _ s, le-leb _ _ k, le-leb _ _ o, d, h)
 
           by-solution : every (noteValue (b .notes)) 81 1 ≡ true → isBoard b ≡ every (solutionValue (b .solution)) 81 1
           unfolding isBoard both
-          by-solution h = rw (le-leb _ _ m, le-leb _ _ s, le-leb _ _ k, d, h)
+          by-solution h = rw (le-leb _ _ m, le-leb _ _ s, le-leb _ _ k, le-leb _ _ o, d, h)
 
 returns : tie.Need-returns
 returns c =
     let a = c .before .args in
-    sym (too-many-made (whole (a .digits .now) (a .given .now) (a .notes .now) (a .solution .now) false (a .made) (a .standing) (a .checks)) (c .if1 .taken))
+    sym (too-many-made (whole (a .digits .now) (a .given .now) (a .notes .now) (a .solution .now) (a .solved) (a .made) (a .standing) (a .checks)) (c .if1 .taken))
 
 returns-2 : tie.Need-returns-2
 returns-2 c =
     let a = c .before .before .args in
-    sym (too-many-standing (whole (a .digits .now) (a .given .now) (a .notes .now) (a .solution .now) false (a .made) (a .standing) (a .checks)) (c .before .if1 .left) (c .if2 .taken))
+    sym (too-many-standing (whole (a .digits .now) (a .given .now) (a .notes .now) (a .solution .now) (a .solved) (a .made) (a .standing) (a .checks)) (c .before .if1 .left) (c .if2 .taken))
 
 returns-3 : tie.Need-returns-3
 returns-3 c =
     let a = c .before .before .before .args in
-    sym (too-many-checks (whole (a .digits .now) (a .given .now) (a .notes .now) (a .solution .now) false (a .made) (a .standing) (a .checks)) (c .before .before .if1 .left) (c .before .if2 .left) (c .if3 .taken))
+    sym (too-many-checks (whole (a .digits .now) (a .given .now) (a .notes .now) (a .solution .now) (a .solved) (a .made) (a .standing) (a .checks)) (c .before .before .if1 .left) (c .before .if2 .left) (c .if3 .taken))
+
+returns-4 : tie.Need-returns-4
+returns-4 c =
+    let a = c .before .before .before .before .args in
+    sym (no-status (whole (a .digits .now) (a .given .now) (a .notes .now) (a .solution .now) (a .solved) (a .made) (a .standing) (a .checks)) (c .before .before .before .if1 .left) (c .before .before .if2 .left) (c .before .if3 .left) (c .if4 .taken))
 
 digit-values-requires : tie.Need-digit-values-requires
 digit-values-requires c κs = search needs
 
-returns-4 : tie.Need-returns-4
-returns-4 c =
-    let a = c .before .before .before .before .before .args in
-    sym (no-digits (whole (a .digits .now) (a .given .now) (a .notes .now) (a .solution .now) false (a .made) (a .standing) (a .checks)) (c .before .before .before .before .if1 .left) (c .before .before .before .if2 .left) (c .before .before .if3 .left) (sym (c .before .digit-values .ensures) ∙ not-true _ (c .if4 .taken)))
+returns-5 : tie.Need-returns-5
+returns-5 c =
+    let a = c .before .before .before .before .before .before .args in
+    sym (no-digits (whole (a .digits .now) (a .given .now) (a .notes .now) (a .solution .now) (a .solved) (a .made) (a .standing) (a .checks)) (c .before .before .before .before .before .if1 .left) (c .before .before .before .before .if2 .left) (c .before .before .before .if3 .left) (c .before .before .if4 .left) (sym (c .before .digit-values .ensures) ∙ not-true _ (c .if5 .taken)))
 
 note-values-requires : tie.Need-note-values-requires
 note-values-requires c κs = search needs
 
-returns-5 : tie.Need-returns-5
-returns-5 c =
-    let a = c .before .before .before .before .before .before .before .args in
-    sym (no-notes (whole (a .digits .now) (a .given .now) (a .notes .now) (a .solution .now) false (a .made) (a .standing) (a .checks)) (c .before .before .before .before .before .before .if1 .left) (c .before .before .before .before .before .if2 .left) (c .before .before .before .before .if3 .left) (sym (c .before .before .before .digit-values .ensures) ∙ not-false _ (c .before .before .if4 .left)) (sym (c .before .note-values .ensures) ∙ not-true _ (c .if5 .taken)))
+returns-6 : tie.Need-returns-6
+returns-6 c =
+    let a = c .before .before .before .before .before .before .before .before .args in
+    sym (no-notes (whole (a .digits .now) (a .given .now) (a .notes .now) (a .solution .now) (a .solved) (a .made) (a .standing) (a .checks)) (c .before .before .before .before .before .before .before .if1 .left) (c .before .before .before .before .before .before .if2 .left) (c .before .before .before .before .before .if3 .left) (c .before .before .before .before .if4 .left) (sym (c .before .before .before .digit-values .ensures) ∙ not-false _ (c .before .before .if5 .left)) (sym (c .before .note-values .ensures) ∙ not-true _ (c .if6 .taken)))
 
 solution-values-requires : tie.Need-solution-values-requires
 solution-values-requires c κs = search needs
 
-returns-6 : tie.Need-returns-6
-returns-6 c =
-    let a = c .before .before .before .before .before .before .before .before .args in
+returns-7 : tie.Need-returns-7
+returns-7 c =
+    let a = c .before .before .before .before .before .before .before .before .before .args in
     c .solution-values .ensures
-    ∙ sym (by-solution (whole (a .digits .now) (a .given .now) (a .notes .now) (a .solution .now) false (a .made) (a .standing) (a .checks)) (c .before .before .before .before .before .before .before .if1 .left) (c .before .before .before .before .before .before .if2 .left) (c .before .before .before .before .before .if3 .left) (sym (c .before .before .before .before .digit-values .ensures) ∙ not-false _ (c .before .before .before .if4 .left)) (sym (c .before .before .note-values .ensures) ∙ not-false _ (c .before .if5 .left)))
+    ∙ sym (by-solution (whole (a .digits .now) (a .given .now) (a .notes .now) (a .solution .now) (a .solved) (a .made) (a .standing) (a .checks)) (c .before .before .before .before .before .before .before .before .if1 .left) (c .before .before .before .before .before .before .before .if2 .left) (c .before .before .before .before .before .before .if3 .left) (c .before .before .before .before .before .if4 .left) (sym (c .before .before .before .before .digit-values .ensures) ∙ not-false _ (c .before .before .before .if5 .left)) (sym (c .before .before .note-values .ensures) ∙ not-false _ (c .before .if6 .left)))
 
 pub is-value-spec : {M : Type 1} → statement M
 is-value-spec =
@@ -87,9 +97,10 @@ is-value-spec =
     returns
     returns-2
     returns-3
-    digit-values-requires
     returns-4
-    note-values-requires
+    digit-values-requires
     returns-5
+    note-values-requires
+    returns-6
     solution-values-requires
-    returns-6)
+    returns-7)

@@ -40,7 +40,7 @@ returns-4 c =
     let one = ap not (eq-eqb _ _ (c .before .before .before .before .before .if1 .left)) in
     let two = ap not (sym (c .before .before .before .before .is-value .ensures)) ∙ c .before .before .before .if2 .left in
     let three = ap not (sym (c .before .before .on-grid .ensures)) ∙ c .before .if3 .left in
-    sym (no-if _ 1 _ one ∙ no-if _ 2 _ two ∙ no-if _ 3 _ three ∙ refused _ 4 _ (c .if4 .taken))
+    sym (no-if _ 1 _ one ∙ no-if _ 2 _ two ∙ no-if _ 3 _ three ∙ refused _ 4 _ (ap not (ne-eqb _ _ (c .if4 .taken))))
 
 cell-of-requires : tie.Need-cell-of-requires
 cell-of-requires c κs = search needs
@@ -55,7 +55,7 @@ returns-5 c =
     let one = ap not (eq-eqb _ _ (c .before .before .before .before .before .before .before .before .if1 .left)) in
     let two = ap not (sym (c .before .before .before .before .before .before .before .is-value .ensures)) ∙ c .before .before .before .before .before .before .if2 .left in
     let three = ap not (sym (c .before .before .before .before .before .on-grid .ensures)) ∙ c .before .before .before .before .if3 .left in
-    let four = c .before .before .before .if4 .left in
+    let four = ap not (eq-eqb _ _ (c .before .before .before .if4 .left)) in
     let held = ap not (sym (c .before .holds-players-digit .ensures ∙ ap (holdsPlayersDigit (parts (a .given .now) (a .digits .now) (a .notes .now) (a .solved))) (c .before .before .cell-of .ensures .0))) in
     sym (no-if _ 1 _ one ∙ no-if _ 2 _ two ∙ no-if _ 3 _ three ∙ no-if _ 4 _ four ∙ refused _ 6 _ (held ∙ c .if5 .taken))
 
@@ -66,7 +66,7 @@ returns-6 c =
     let one = ap not (eq-eqb _ _ (c .before .before .before .before .before .before .before .before .before .if1 .left)) in
     let two = ap not (sym (c .before .before .before .before .before .before .before .before .is-value .ensures)) ∙ c .before .before .before .before .before .before .before .if2 .left in
     let three = ap not (sym (c .before .before .before .before .before .before .on-grid .ensures)) ∙ c .before .before .before .before .before .if3 .left in
-    let four = c .before .before .before .before .if4 .left in
+    let four = ap not (eq-eqb _ _ (c .before .before .before .before .if4 .left)) in
     let held = ap not (sym (c .before .before .holds-players-digit .ensures ∙ ap (holdsPlayersDigit (parts (a .given .now) (a .digits .now) (a .notes .now) (a .solved))) (c .before .before .before .cell-of .ensures .0))) in
     let six = held ∙ c .before .if5 .left in
     sym (no-if _ 1 _ one ∙ no-if _ 2 _ two ∙ no-if _ 3 _ three ∙ no-if _ 4 _ four ∙ no-if _ 6 _ six ∙ refused _ 16 _ (eq-eqb _ _ (c .if6 .taken)))
@@ -78,7 +78,7 @@ returns-7 c =
     let one = ap not (eq-eqb _ _ (c .before .before .before .before .before .before .before .before .before .if1 .left)) in
     let two = ap not (sym (c .before .before .before .before .before .before .before .before .is-value .ensures)) ∙ c .before .before .before .before .before .before .before .if2 .left in
     let three = ap not (sym (c .before .before .before .before .before .before .on-grid .ensures)) ∙ c .before .before .before .before .before .if3 .left in
-    let four = c .before .before .before .before .if4 .left in
+    let four = ap not (eq-eqb _ _ (c .before .before .before .before .if4 .left)) in
     let held = ap not (sym (c .before .before .holds-players-digit .ensures ∙ ap (holdsPlayersDigit (parts (a .given .now) (a .digits .now) (a .notes .now) (a .solved))) (c .before .before .before .cell-of .ensures .0))) in
     let six = held ∙ c .before .if5 .left in
     sym (no-if _ 1 _ one ∙ no-if _ 2 _ two ∙ no-if _ 3 _ three ∙ no-if _ 4 _ four ∙ no-if _ 6 _ six ∙ last-if _ 16 (ne-eqb _ _ (c .if6 .left)))

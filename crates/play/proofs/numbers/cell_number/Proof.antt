@@ -2,6 +2,7 @@
 -- Assumes nothing.
 use mathlib.Core.Path.{sym, ap, _∙_}
 use mathlib.Core.Bool.{not}
+use borrow.Author.Tests.{eq-eqb, ne-eqb}
 use Rattle.sudoku.proofs.Walks.{refused, no-if}
 use Rattle.board.proofs.Numbers.{last-if}
 use borrow.Author.Needs.{needs}
@@ -17,12 +18,12 @@ returns c = sym (refused _ 3 _ (ap not (sym (c .before .on-grid .ensures)) ∙ c
 returns-2 : tie.Need-returns-2
 returns-2 c =
     let three = ap not (sym (c .before .before .on-grid .ensures)) ∙ c .before .if1 .left in
-    sym (no-if _ 3 _ three ∙ refused _ 4 _ (c .if2 .taken))
+    sym (no-if _ 3 _ three ∙ refused _ 4 _ (ap not (ne-eqb _ _ (c .if2 .taken))))
 
 returns-3 : tie.Need-returns-3
 returns-3 c =
     let three = ap not (sym (c .before .before .on-grid .ensures)) ∙ c .before .if1 .left in
-    sym (no-if _ 3 _ three ∙ last-if _ 4 (c .if2 .left))
+    sym (no-if _ 3 _ three ∙ last-if _ 4 (ap not (eq-eqb _ _ (c .if2 .left))))
 
 pub cell-number-spec : {M : Type 1} → statement M
 cell-number-spec = tie.close (tie.spec on-grid-requires returns returns-2 returns-3)

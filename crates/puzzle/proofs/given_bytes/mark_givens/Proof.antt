@@ -8,7 +8,7 @@ use native.Mathlib.Omega.{arith}
 use borrow.Author.Needs.{needs}
 use lib.ListN.{length, set, replicate, length-set}
 use Rattle.sudoku.specs.Tests.{run}
-use Rattle.sudoku.specs.Grid.{cellOf}
+use Rattle.sudoku.specs.Grid.{cellOf, put}
 use Rattle.sudoku.proofs.Walks.{run-more, run-all}
 use Rattle.puzzle.specs.declared.Given.{Given}
 use Rattle.puzzle.specs.Givens.{givenIn, givensIn, givenCells}
@@ -27,7 +27,7 @@ loop-holds : tie.Need-loop-holds Inv-loop μ-loop
 unfolding givenCells givensIn
 loop-holds c =
     let a = c .before .args in
-    (omega arith, omega arith, rw sub-zero (mark-walk (givenIn (a .layout) (a .bytes .now)) (replicate 81 false) (a .count) 0))
+    (omega arith, omega arith, rw sub-zero (mark-walk (givenIn (a .layout) (a .bytes .now)) (replicate 81 0) (a .count) 0))
 
 given-at-requires : tie.Need-given-at-requires Inv-loop μ-loop
 given-at-requires c κs = search needs
@@ -48,6 +48,7 @@ loop-less : tie.Need-loop-less Inv-loop μ-loop
 loop-less c = search needs
 
 loop-again : tie.Need-loop-again Inv-loop μ-loop
+unfolding put
 loop-again c =
     let a = c .before .before .before .before .before .before .args in
     let turn = c .before .before .before .before .loop in
@@ -58,7 +59,7 @@ loop-again c =
       length-set (turn .flags) (c .index-of .result) _ ∙ turn .inv .1,
       turn .inv .2
           ∙ run-more (markAt f) (turn .flags) (a .count) (turn .i) (c .before .before .before .loop-test .taken)
-          ∙ ap (λ l. run (markAt f) l (a .count - (turn .i + 1)) (turn .i + 1)) (sym (λ j. set (turn .flags) (at j) true)),
+          ∙ ap (λ l. run (markAt f) l (a .count - (turn .i + 1)) (turn .i + 1)) (sym (λ j. set (turn .flags) (at j) 1)),
     )
 
 returns : tie.Need-returns Inv-loop μ-loop

@@ -1,0 +1,70 @@
+-- Lists of calls: what each call answers is what the book says, and what they leave holds the book after them.
+-- Assumes nothing.
+use mathlib.Core.Path.{_≡_, refl, ap, _∙_}
+use mathlib.Core.List.{List, [], _∷_}
+use Prim.Native.Nat.{ℕ}
+use lib.ListN.{length-replicate}
+use Rattle.puzzle.specs.declared.Given.{Given}
+use Rattle.journal.specs.Limits.{journalBytes, checkMemory}
+use Rattle.journal.specs.StoredChecks.{storedAll}
+use Rattle.board.specs.Board.{fresh}
+use Rattle.board.specs.Open.{openedFresh, noMoves, noChecks}
+use Rattle.calls.specs.declared.Call.{Call}
+use Rattle.calls.specs.Session.{Session, Said, after, answers, started}
+use Rattle.demands.specs.Book.{Book, newBook, made, performAll, stateIn, step, says, keep, saysAll, slotsFrom, slotsIn}
+use Rattle.demands.specs.Opens.{Opens}
+use Rattle.demands.specs.Demand3.{boardIn}
+use Rattle.demands.proofs.Good.{Good, good-new, good-step}
+use Rattle.demands.proofs.Held.{Held}
+use Rattle.demands.proofs.Steps.{sessionOf, Agrees, agrees}
+
+pub record AgreesAll (k : Book) (journal checks : List ℕ) (cs : List Call) : Type 0 where
+  pub journalAfter : List ℕ
+  pub checksAfter : List ℕ
+  pub said : answers (sessionOf k journal checks) cs ≡ saysAll k cs
+  pub left : after (sessionOf k journal checks) cs ≡ sessionOf (keep k cs) journalAfter checksAfter
+  pub held : Held journalAfter checksAfter (keep k cs)
+
+-- one call, then the rest
+and-then : (k : Book) (journal checks : List ℕ) (c : Call) (cs : List Call) (one : Agrees k journal checks c)
+    → AgreesAll (step k c) (one .journalAfter) (one .checksAfter) cs → AgreesAll k journal checks (c ∷ cs)
+unfolding after answers keep saysAll
+and-then k journal checks c cs one rest =
+    record {
+      journalAfter = rest .journalAfter;
+      checksAfter = rest .checksAfter;
+      said = (λ i. one .said i ∷ answers (one .left i) cs) ∙ ap (λ (l : List Said). says k c ∷ l) (rest .said);
+      left = ap (λ (s : Session). after s cs) (one .left) ∙ rest .left;
+      held = rest .held;
+    }
+
+pub agrees-all : (k : Book) (journal checks : List ℕ) (cs : List Call) → Good k → Held journal checks k → AgreesAll k journal checks cs
+unfolding after answers keep saysAll
+agrees-all k journal checks [] g h = record { journalAfter = journal; checksAfter = checks; said = refl; left = refl; held = h }
+agrees-all k journal checks (c ∷ cs) g h =
+    and-then k journal checks c cs (agrees k journal checks g h c)
+    (agrees-all (step k c) (agrees k journal checks g h c .journalAfter) (agrees k journal checks g h c .checksAfter) cs (good-step k g c)
+    (agrees k journal checks g h c .held))
+
+-- ---- from the fresh board
+
+module _ (givens : List Given) (solution : List ℕ) where
+  fresh-session : started (openedFresh givens solution) ≡ sessionOf (newBook givens solution) noMoves noChecks
+  unfolding started openedFresh fresh boardIn stateIn newBook made performAll
+  fresh-session = refl
+
+  fresh-held : Held noMoves noChecks (newBook givens solution)
+  unfolding newBook made slotsIn slotsFrom storedAll noMoves noChecks
+  fresh-held =
+      record { slots = refl; journalLength = length-replicate {A = ℕ} journalBytes 0; stored = refl; checksLength = length-replicate {A = ℕ} checkMemory 0 }
+
+  pub session-all : (cs : List Call) → Opens givens solution → AgreesAll (newBook givens solution) noMoves noChecks cs
+  session-all cs o = agrees-all (newBook givens solution) noMoves noChecks cs (good-new givens solution o) fresh-held
+
+  pub session-said : (cs : List Call) → Opens givens solution → answers (started (openedFresh givens solution)) cs ≡ saysAll (newBook givens solution) cs
+  session-said cs o = ap (λ (s : Session). answers s cs) fresh-session ∙ session-all cs o .said
+
+  pub session-left : (cs : List Call) (o : Opens givens solution)
+      → after (started (openedFresh givens solution)) cs
+      ≡ sessionOf (keep (newBook givens solution) cs) (session-all cs o .journalAfter) (session-all cs o .checksAfter)
+  session-left cs o = ap (λ (s : Session). after s cs) fresh-session ∙ session-all cs o .left

@@ -1,0 +1,102 @@
+-- A board that holds what a book holds, with memory that does, writes the book's record, whatever the output held; and a record has at most 5,955 bytes.
+-- Assumes nothing.
+use Prim.Native.Nat.{ℕ, _-_, _≤_}
+use mathlib.Core.Path.{_≡_, refl, sym, ap, _∙_}
+use mathlib.Core.List.{List, map}
+use native.Mathlib.Omega.{arith}
+use lib.ListN.{length, take, length-map}
+use borrow.Author.Tests.{eq-eqb, le-ltb}
+use Rattle.sudoku.proofs.Walks.{both-true, not-is-false, pick-true}
+use Rattle.sudoku.proofs.Each.{Each, each-to}
+use Rattle.sudoku.specs.Grid.{cellOf}
+use Rattle.puzzle.specs.Givens.{givenCells}
+use Rattle.puzzle.specs.Refusals.{refusal, accepted}
+use Rattle.puzzle.proofs.Accepted.{accepts, if-not, or-else-of}
+use Rattle.journal.specs.Limits.{journalBytes, checkMemory, recordBytes}
+use Rattle.journal.specs.Bytes.{over}
+use Rattle.journal.specs.State.{opening, digitAt}
+use Rattle.journal.specs.StoredChecks.{Stored}
+use Rattle.board.specs.Board.{stateOf, boardOf}
+use Rattle.record.specs.Items.{Parts, recordOf}
+use Rattle.record.specs.Write.{givensOf, movesOf, askedOf, partsOf, writeRefusal, writeOf, wrote}
+use Rattle.record.proofs.Givens.{givens-kept}
+use Rattle.record.proofs.Lengths.{record-short}
+use Rattle.record.proofs.Held.{StoredFits, CheckSound, asked-held, checks-sound}
+use Rattle.demands.specs.Book.{Book, made, stateIn, slotsIn, asked, partsOfBook, recordIn}
+use Rattle.demands.specs.Demand3.{boardIn, writeSession}
+use Rattle.demands.proofs.Opening.{opens-grid, opens-rising, opening-given, opening-fit}
+use Rattle.demands.proofs.Slots.{journal-moves, journal-sound}
+use Rattle.demands.proofs.Reached.{reached-given, reached-is-given, digits-kept}
+use Rattle.demands.proofs.Good.{Admitted, Good, standing-plays}
+use Rattle.demands.proofs.Held.{Held, good-board}
+use Rattle.demands.proofs.Steps.{sessionOf}
+
+-- ---- what is written
+
+pub book-short : (k : Book) → Good k → length (recordIn k) ≤ recordBytes
+unfolding recordIn partsOfBook made
+book-short k g =
+    record-short (partsOfBook k) (omega (arith, g .opens .left)) (g .few) (omega (arith, g .fewChecks, length-map (k .checks) asked))
+
+module _ (k : Book) (journal checks : List ℕ) (g : Good k) (h : Held journal checks k) where
+  same-given : boardIn k .given ≡ givenCells (k .givens)
+  unfolding boardIn boardOf stateIn
+  same-given = reached-given (k .givens) (k .solution) (g .opens) (take (k .standing) (k .moves)) (standing-plays k g)
+
+  same-givens : givensOf (boardIn k) ≡ k .givens
+  unfolding boardIn boardOf stateIn opening digitAt
+  same-givens =
+      givens-kept (k .givens) (opens-grid (k .givens) (k .solution) (g .opens)) (opens-rising (k .givens) (k .solution) (g .opens)) (boardIn k) same-given
+      (λ cell is t.
+      digits-kept (opening (k .givens)) (take (k .standing) (k .moves)) cell is (opening-given (k .givens) (k .solution) (g .opens) cell is ∙ t) (standing-plays k g))
+
+  same-moves : movesOf journal (made k) ≡ k .moves
+  unfolding made slotsIn
+  same-moves = journal-moves journal (opening (k .givens)) (k .moves) (h .slots)
+
+  checks-fit : Each StoredFits (k .checks)
+  checks-fit = each-to (Admitted (k .givens) (k .solution)) StoredFits (λ c a. omega (arith, a .few)) (k .checks) (g .admitted)
+
+  same-asked : askedOf checks (length (k .checks)) ≡ map asked (k .checks)
+  unfolding asked
+  same-asked = asked-held checks (k .checks) (length (k .checks)) refl checks-fit (h .stored)
+
+  same-parts : partsOf (boardIn k) journal checks ≡ partsOfBook k
+  unfolding partsOf partsOfBook boardIn boardOf
+  same-parts =
+      λ i. record { givens = same-givens i; moves = same-moves i; undone = made k - k .standing; checks = same-asked i }
+
+  check-sound : (c : Stored) → Admitted (k .givens) (k .solution) c → CheckSound (stateIn k) c
+  unfolding stateIn
+  check-sound c a =
+      record {
+        grid = a .grid;
+        free = reached-is-given (k .givens) (k .solution) (g .opens) (take (k .standing) (k .moves)) (standing-plays k g) (cellOf (c .row) (c .column)) ∙ a .free;
+        some = a .some;
+        in-time = a .few;
+        range = a .range;
+      }
+
+  write-accepted : (output : List ℕ) → length output ≡ recordBytes → writeRefusal (boardIn k) journal checks output ≡ accepted
+  unfolding writeRefusal boardIn boardOf stateOf made opening stateIn recordIn slotsIn
+  write-accepted output e =
+      or-else-of _ _
+      (accepts _ (if-not _ (refusal 1 0 0)
+      (not-is-false _ (both-true _ _ (eq-eqb (length journal) journalBytes (h .journalLength)) (eq-eqb (length checks) checkMemory (h .checksLength))))))
+      (or-else-of _ _ (accepts _ (if-not _ (refusal 2 0 0) (not-is-false _ (good-board k g))))
+      (or-else-of _ _
+      (accepts _
+      (journal-sound journal (opening (k .givens)) (k .moves) (h .slots) (stateIn k) (opening-fit (k .givens) (k .solution) (g .opens)) (g .plays) (sym same-given)))
+      (or-else-of _ _
+      (accepts _ (checks-sound checks (k .checks) (length (k .checks)) refl checks-fit (h .stored) (stateIn k)
+      (each-to (Admitted (k .givens) (k .solution)) (CheckSound (stateIn k)) check-sound (k .checks) (g .admitted))))
+      (if-not _ (refusal 34 0 0)
+      (le-ltb (length output) (length (recordOf (partsOf (boardIn k) journal checks)))
+      (omega (arith, book-short k g, ap (λ (p : Parts). length (recordOf p)) same-parts)))))))
+
+  pub book-written : (output : List ℕ) → length output ≡ recordBytes
+      → writeSession (sessionOf k journal checks) output ≡ wrote accepted (length (recordIn k)) (over output 0 (recordIn k))
+  unfolding writeSession writeOf recordIn
+  book-written output e =
+      pick-true _ _ _ (accepts _ (write-accepted output e))
+      ∙ ap (λ (p : Parts). wrote accepted (length (recordOf p)) (over output 0 (recordOf p))) same-parts

@@ -1,4 +1,0 @@
-pub mod Kept
-pub mod Played
-pub mod Back
-pub mod Checked

@@ -1,0 +1,84 @@
+-- Readings of document 01 (reading.rs, moves.rs): for move k its kind, target, digit, whether undone, its index,
+-- and digits and notes after slots 1 to k are applied, as recorded, to the givens and empty notes. Refusals 1, 2, 14, 35.
+-- Assumes nothing.
+use Prim.Native.Nat.{ℕ, _+_, _*_}
+use mathlib.Core.Bool.{Bool, false, not}
+use mathlib.Core.List.{List}
+use lib.Dec.{leb, ltb, eqb}
+use lib.ListN.{length, replicate}
+use Rattle.sudoku.specs.Tests.{pick, both, run, listed}
+use Rattle.sudoku.specs.Grid.{at}
+use Rattle.puzzle.specs.declared.Refusal.{Refusal}
+use Rattle.puzzle.specs.Refusals.{refusal, accepted, isAccepted, refusedIf, orElse, firstRefused}
+use Rattle.journal.specs.Limits.{journalBytes}
+use Rattle.journal.specs.declared.Slot.{Slot}
+use Rattle.journal.specs.State.{State, isGiven, performAgain}
+use Rattle.journal.specs.Slots.{slotAt, moveOf}
+use Rattle.board.specs.declared.Board.{Board}
+use Rattle.board.specs.Board.{stateOf, isBoard}
+use Rattle.play.specs.Play.{unsoundSlot}
+use Rattle.readings.specs.declared.Reading.{Reading}
+
+-- the board's givens and empty notes
+unfoldable pub openingOf : Board → State
+openingOf b =
+    record {
+      given = b .given;
+      digits = listed (λ cell. pick (isGiven (stateOf b) cell) (at (b .digits) cell) 0) 81 1;
+      notes = replicate 81 0;
+      solved = 0;
+    }
+
+-- the state with slot n applied, as recorded
+unfoldable pub applySlot : List ℕ → State → ℕ → State
+applySlot journal s n =
+    let slot = slotAt journal n in
+    performAgain s (moveOf slot) (slot .struck)
+
+-- the state after slots 1 to k
+unfoldable pub stateAfter : Board → List ℕ → ℕ → State
+stateAfter b journal k = run (applySlot journal) (openingOf b) k 1
+
+-- 1; 2; 14 for any of the slots 1 to made, place naming the first; 35 A reading's k is 0 or above made
+unfoldable pub readingRefusal : Board → List ℕ → ℕ → Refusal
+readingRefusal b journal k =
+    orElse (refusedIf (not (eqb (length journal) journalBytes)) (refusal 1 0 0))
+    (orElse (refusedIf (not (isBoard b)) (refusal 2 0 0))
+    (orElse (firstRefused (unsoundSlot (stateOf b) journal) (b .made) 1)
+    (refusedIf (not (both (leb 1 k) (leb k (b .made)))) (refusal 35 0 0))))
+
+-- the reading of move k: undone when k is above standing
+unfoldable pub reading : Board → List ℕ → ℕ → Reading
+reading b journal k =
+    let slot = slotAt journal k in
+    let s = stateAfter b journal k in
+    record {
+      refusal = accepted;
+      kind = slot .kind;
+      row = slot .row;
+      column = slot .column;
+      digit = slot .digit;
+      undone = ltb (b .standing) k;
+      index = k;
+      digits = s .digits;
+      notes = s .notes;
+    }
+
+unfoldable pub noReading : Refusal → Reading
+noReading r =
+    record {
+      refusal = r;
+      kind = 0;
+      row = 0;
+      column = 0;
+      digit = 0;
+      undone = false;
+      index = 0;
+      digits = replicate 81 0;
+      notes = replicate 81 0;
+    }
+
+unfoldable pub readingOf : Board → List ℕ → ℕ → Reading
+readingOf b journal k =
+    let r = readingRefusal b journal k in
+    pick (isAccepted r) (reading b journal k) (noReading r)

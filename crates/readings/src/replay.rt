@@ -1,0 +1,73 @@
+// The board as it stood after slots 1 to k: its givens and empty notes, and then each slot applied as recorded. A place strikes the peers in its mask and no others.
+use undo::digits::digit_again;
+use undo::marks::marks_again;
+use board::Board;
+use journal::slots::is_given;
+use journal::slots::slot_at;
+use puzzle::digit_at;
+use sudoku::CELLS;
+ghost use mathlib.Core.Path.{_≡_};
+ghost use Rattle.sudoku.specs.Tests.{pick, listed};
+ghost use Rattle.sudoku.specs.Grid.{at};
+ghost use Rattle.journal.specs.State.{givensOnly, isGiven};
+ghost use Rattle.board.specs.Board.{stateOf};
+ghost use Rattle.readings.specs.Reading.{openingOf, applySlot, stateAfter};
+
+// The digit of a cell that is a given; 0 for any other.
+fn given_digit(digits: &[u8; 81], given: &[u8; 81], cell: usize) -> u8
+    ensures { λ r. ⌜ r ≡ pick (isGiven (givensOnly (now (given .entry))) cell) (at (now (digits .entry)) cell) 0 ⌝ }
+{
+    if is_given(given, cell) {
+        return digit_at(digits, cell);
+    }
+    0
+}
+
+// The digits of the givens alone.
+fn given_digits(digits: [u8; 81], given: &[u8; 81]) -> [u8; 81]
+    ensures { λ r. ⌜ r ≡ listed (λ cell. pick (isGiven (givensOnly (now (given .entry))) cell) (at digits cell) 0) 81 1 ⌝ }
+{
+    let mut out = [0u8; 81];
+    let mut i: usize = 0;
+    while i < CELLS {
+        out[i] = given_digit(&digits, given, i + 1);
+        i += 1;
+    }
+    out
+}
+
+// The board's givens and empty notes.
+fn opening(board: Board) -> Board
+    ensures { λ r. ⌜ stateOf r ≡ openingOf board ⌝ }
+{
+    let kept = board.digits;
+    let digits = given_digits(kept, &board.given);
+    let mut start = board;
+    start.digits = digits;
+    start.notes = [0u16; 81];
+    start.solved = 0;
+    start
+}
+
+// The board with slot n applied, as recorded.
+fn with_slot(board: Board, journal: &[u8], n: usize) -> Board
+    ensures { λ r. ⌜ stateOf r ≡ applySlot (now (journal .entry)) (stateOf board) n ⌝ }
+{
+    let slot = slot_at(journal, n);
+    let digits = digit_again(board, slot);
+    marks_again(digits, slot)
+}
+
+// The board after slots 1 to k.
+pub fn after(board: Board, journal: &[u8], k: usize) -> Board
+    ensures { λ r. ⌜ stateOf r ≡ stateAfter board (now (journal .entry)) k ⌝ }
+{
+    let mut standing = opening(board);
+    let mut i: usize = 0;
+    while i < k {
+        let next = with_slot(standing, journal, i + 1);
+        standing = next;
+        i += 1;
+    }
+    standing
+}

@@ -1,0 +1,33 @@
+-- `undo::digits::put_back` meets its contract.
+-- Assumes nothing.
+use mathlib.Core.Path.{refl}
+use Rattle.undo.specs.Halves.{digitBack}
+use borrow.Author.Needs.{needs}
+use Rattle.undo.proofs.digits.put_back.Statement.{statement}
+use Rattle.undo.proofs.digits.put_back.Tie as tie
+
+digit-change-requires : tie.Need-digit-change-requires
+digit-change-requires c κs = search needs
+
+enum-known-change : tie.Need-enum-known-change
+enum-known-change c = search needs
+
+enum-told : tie.Need-enum-told
+enum-told c = search needs
+
+returns : tie.Need-returns
+unfolding digitBack
+returns c = rw (← c .before .before .digit-change .ensures, c .enum-told .given .1) (refl, refl)
+
+cell-of-requires : tie.Need-cell-of-requires
+cell-of-requires c κs = search needs
+
+put-in-requires : tie.Need-put-in-requires
+put-in-requires c κs = search needs
+
+returns-2 : tie.Need-returns-2
+unfolding digitBack
+returns-2 c = rw (← c .before .before .before .before .before .before .digit-change .ensures, c .before .before .before .before .change .given .1, ← c .before .cell-of .ensures .0) (c .put-in .ensures)
+
+pub put-back-spec : {M : Type 1} → statement M
+put-back-spec = tie.close (tie.spec digit-change-requires enum-known-change enum-told returns cell-of-requires put-in-requires returns-2)
