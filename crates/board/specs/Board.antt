@@ -2,14 +2,13 @@
 -- Assumes nothing.
 use Prim.Native.Nat.{ℕ}
 use mathlib.Core.Bool.{Bool, not}
-use mathlib.Core.List.{List}
-use lib.Dec.{leb, eqb}
+use mathlib.Core.List.{List, _∷_}
+use lib.Dec.{leb}
 use lib.ListN.{replicate}
-use Rattle.sudoku.specs.Tests.{both, either, every}
+use Rattle.sudoku.specs.Tests.{Test, _⇒_, both, every}
 use Rattle.sudoku.specs.Grid.{inRange, at}
 use Rattle.note.specs.Note.{isNote}
 use Rattle.puzzle.specs.declared.Given.{Given}
-use Rattle.puzzle.specs.Givens.{isSet}
 use Rattle.journal.specs.Limits.{maxMoves, maxChecks}
 use Rattle.journal.specs.declared.Counts.{Counts}
 use Rattle.journal.specs.Counts.{counts}
@@ -77,6 +76,10 @@ isBoard b =
     (both (leb (b .solved) 1)
     (both (every (digitValue (b .digits) (b .given)) 81 1)
     (both (every (noteValue (b .notes)) 81 1) (every (solutionValue (b .solution)) 81 1))))))
+
+-- 1 and 2, which every call with a board and lent memory tests first: whether what is lent has its length, and the board value
+unfoldable pub lentTests : Bool → Board → List Test → List Test
+lentTests fits b tests = (not fits ⇒ 1) ∷ (not (isBoard b) ⇒ 2) ∷ tests
 
 -- the fresh board of givens and their solution
 unfoldable pub fresh : List Given → List ℕ → Board

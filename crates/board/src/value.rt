@@ -2,19 +2,22 @@
 use crate::Board;
 use journal::MAX_CHECKS;
 use journal::MAX_MOVES;
+use sudoku::CELLS;
+use sudoku::SIDE;
 ghost use mathlib.Core.Path.{_≡_};
-ghost use mathlib.Core.Bool.{not};
-ghost use lib.Dec.{leb, eqb};
-ghost use Rattle.sudoku.specs.Tests.{both, either, every};
+ghost use mathlib.Core.List.{[]};
+ghost use Prim.Native.Nat.{_≤_};
+ghost use lib.Dec.{leb};
+ghost use Rattle.sudoku.specs.Tests.{both, every, first};
 ghost use Rattle.sudoku.specs.Grid.{inRange};
 ghost use Rattle.note.specs.Note.{isNote};
-ghost use Rattle.board.specs.Board.{whole, isBoard, digitValue, noteValue, solutionValue};
+ghost use Rattle.board.specs.Board.{isBoard, digitValue, noteValue, solutionValue, lentTests};
 
 // What was found so far, and a cell's digit and flag: no digit above 9, no flag above 1, and no given without a digit.
 fn digit_step(ok: bool, digit: u8, given: u8) -> bool
     ensures { λ r. ⌜ r ≡ both ok (both (leb digit 9) (both (leb given 1) (leb given digit))) ⌝ }
 {
-    ok & (digit <= 9) & (given <= 1) & (given <= digit)
+    ok & (digit <= SIDE) & (given <= 1) & (given <= digit)
 }
 
 fn digit_values<'a>(digits: &'a [u8; 81], given: &'a [u8; 81]) -> bool
@@ -22,7 +25,7 @@ fn digit_values<'a>(digits: &'a [u8; 81], given: &'a [u8; 81]) -> bool
 {
     let mut ok = true;
     let mut i: usize = 0;
-    while i < 81 {
+    while i < CELLS {
         ok = digit_step(ok, digits[i], given[i]);
         i += 1;
     }
@@ -43,7 +46,7 @@ fn note_values(notes: &[u16; 81]) -> bool
 {
     let mut ok = true;
     let mut i: usize = 0;
-    while i < 81 {
+    while i < CELLS {
         ok = note_step(ok, notes[i]);
         i += 1;
     }
@@ -64,63 +67,48 @@ fn solution_values(solution: &[u8; 81]) -> bool
 {
     let mut ok = true;
     let mut i: usize = 0;
-    while i < 81 {
+    while i < CELLS {
         ok = solution_step(ok, solution[i]);
         i += 1;
     }
     ok
 }
 
-// Whether number 2 does not speak of a board value of these parts.
-pub fn is_value<'a>(
-    digits: &'a [u8; 81],
-    given: &'a [u8; 81],
-    notes: &'a [u16; 81],
-    solution: &'a [u8; 81],
-    solved: u8,
-    made: usize,
-    standing: usize,
-    checks: usize,
-) -> bool
-    ensures { λ r. ⌜ r ≡ isBoard (whole (now (digits .entry)) (now (given .entry)) (now (notes .entry)) (now (solution .entry)) solved made standing checks) ⌝ }
-{
-    if made > MAX_MOVES {
-        return false;
-    }
-    if standing > made {
-        return false;
-    }
-    if checks > MAX_CHECKS {
-        return false;
-    }
-    if solved > 1 {
-        return false;
-    }
-    if !digit_values(digits, given) {
-        return false;
-    }
-    if !note_values(notes) {
-        return false;
-    }
-    solution_values(solution)
-}
-
 // Whether number 2 does not speak of the board value.
 pub fn is_board(board: Board) -> bool
     ensures { λ r. ⌜ r ≡ isBoard board ⌝ }
 {
-    let solved = board.solved;
-    let made = board.made;
-    let standing = board.standing;
-    let checks = board.checks;
-    is_value(
-        &board.digits,
-        &board.given,
-        &board.notes,
-        &board.solution,
-        solved,
-        made,
-        standing,
-        checks,
-    )
+    if board.made > MAX_MOVES {
+        return false;
+    }
+    if board.standing > board.made {
+        return false;
+    }
+    if board.checks > MAX_CHECKS {
+        return false;
+    }
+    if board.solved > 1 {
+        return false;
+    }
+    if !digit_values(&board.digits, &board.given) {
+        return false;
+    }
+    if !note_values(&board.notes) {
+        return false;
+    }
+    solution_values(&board.solution)
+}
+
+// 1 and 2, which every call with a board and lent memory asks first; `fits` says that the memory has its length.
+// That no other number comes spares callers a fact.
+pub fn lent_number(board: Board, fits: bool) -> u8
+    ensures { λ r. ⌜ (r ≡ first (lentTests fits board [])) × (r ≤ 2) ⌝ }
+{
+    if !fits {
+        return 1;
+    }
+    if !is_board(board) {
+        return 2;
+    }
+    0
 }

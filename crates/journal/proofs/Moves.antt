@@ -22,8 +22,8 @@ use Rattle.puzzle.proofs.Givens.{OnGrid, Matches, Rising, rising, marked, given
 use Rattle.puzzle.specs.Puzzle.{holdsDigit, isFull, isConsistent, settled}
 use Rattle.journal.specs.declared.Move.{Move}
 use Rattle.journal.specs.declared.Move.the-variants.{Place, Erase, WriteMark, StrikeMark}
-use Rattle.journal.specs.State.{State, opening, isGiven, digitAt, noteAt, withNotes, putDigit, writeAt, strikeAt, strikeAll, holders, writeMasked, everyMasked, rowIn, columnIn, digitIn, kindOf, perform, before, struck, performAgain, takeBack, standsAsLeft, standsAsFound}
-use Rattle.journal.specs.Slots.{slotFor, moveOf, soundPlace, soundErase, soundMark, isSound}
+use Rattle.journal.specs.State.{State, opening, digitAt, noteAt, withNotes, putDigit, writeAt, strikeAt, strikeAll, holders, writeMasked, everyMasked, rowIn, columnIn, digitIn, kindOf, perform, before, struck, performAgain, takeBack, standsAsLeft, standsAsFound}
+use Rattle.journal.specs.Slots.{slotFor, moveOf, soundPlace, soundErase, soundMark, isSound, isFree}
 use Rattle.journal.proofs.PeerCells.{peers-within, in-cells, in-peers}
 use Rattle.journal.proofs.Pointwise.{place-struck}
 use Rattle.journal.proofs.NoteCells.{isIn, Within, AreNotes, masked-in, masked-holders, holders-small, strike-at-mark, write-at-mark, length-strike-all, length-strike-at, length-write-at, strike-all-notes, strike-at-notes, write-at-notes, strike-again, write-back, every-masked, strike-written, write-struck}
@@ -35,21 +35,21 @@ pub record Fit (s : State) : Type 0 where
   pub digits-81 : length (s .digits) ≡ 81
   pub notes-81 : length (s .notes) ≡ 81
   pub digits : (cell : ℕ) → isCell cell ≡ true → digitAt s cell ≤ 9
-  pub givens : (cell : ℕ) → isCell cell ≡ true → isGiven s cell ≡ true → digitAt s cell ≡ 0 → ⊥
+  pub givens : (cell : ℕ) → isCell cell ≡ true → isSet (s .given) cell ≡ true → digitAt s cell ≡ 0 → ⊥
   pub notes : (cell : ℕ) → isCell cell ≡ true → isNote (noteAt s cell) ≡ true
   pub status : s .solved ≡ bit (both (isFull (s .digits)) (isConsistent (s .digits)))
 
 -- what an accepted move finds, for each kind
 pub record PlaceAllowed (s : State) (row column digit : ℕ) : Type 0 where
   pub grid : onGrid row column ≡ true
-  pub free : isGiven s (cellOf row column) ≡ false
+  pub free : isSet (s .given) (cellOf row column) ≡ false
   pub range : inRange digit ≡ true
   pub other : digitAt s (cellOf row column) ≡ digit → ⊥
 
 pub record EraseAllowed (s : State) (row column : ℕ) : Type 0 where
   pub grid : onGrid row column ≡ true
   pub holds : holdsDigit (s .digits) (cellOf row column) ≡ true
-  pub free : isGiven s (cellOf row column) ≡ false
+  pub free : isSet (s .given) (cellOf row column) ≡ false
 
 pub record WriteAllowed (s : State) (row column digit : ℕ) : Type 0 where
   pub grid : onGrid row column ≡ true
@@ -85,7 +85,7 @@ module _ (s : State) (f : Fit s) where
 
   -- other notes of the same size keep a state fit
   fit-notes : (notes : List ℕ) → length notes ≡ 81 → AreNotes notes → Fit (withNotes s notes)
-  unfolding withNotes digitAt isGiven noteAt
+  unfolding withNotes digitAt noteAt
   fit-notes notes l a =
       record {
         given-81 = f .given-81;
@@ -99,9 +99,9 @@ module _ (s : State) (f : Fit s) where
       }
 
   -- so does a digit put into a cell that is no given, where the status is the digits'
-  fit-put : (cell d : ℕ) → isCell cell ≡ true → isGiven s cell ≡ false → d ≤ 9
+  fit-put : (cell d : ℕ) → isCell cell ≡ true → isSet (s .given) cell ≡ false → d ≤ 9
       → (putDigit s cell d) .solved ≡ bit (both (isFull (put (s .digits) cell d)) (isConsistent (put (s .digits) cell d))) → Fit (putDigit s cell d)
-  unfolding putDigit digitAt isGiven noteAt
+  unfolding putDigit digitAt noteAt
   fit-put cell d p free u e =
       record {
         given-81 = f .given-81;
@@ -344,10 +344,10 @@ move-kept s (WriteMark row column digit) = refl
 move-kept s (StrikeMark row column digit) = refl
 
 -- a cell of a fit state that holds no digit is no given
-empty-free : (s : State) (cell : ℕ) → Fit s → isCell cell ≡ true → holdsDigit (s .digits) cell ≡ false → isGiven s cell ≡ false
+empty-free : (s : State) (cell : ℕ) → Fit s → isCell cell ≡ true → holdsDigit (s .digits) cell ≡ false → isSet (s .given) cell ≡ false
 unfolding holdsDigit digitAt
 empty-free s cell f p h =
-    by-test (isGiven s cell) (λ t. absurd (f .givens cell p t (eqb-true (at (s .digits) cell) 0 (not-false (eqb (at (s .digits) cell) 0) h)))) (λ t. t)
+    by-test (isSet (s .given) cell) (λ t. absurd (f .givens cell p t (eqb-true (at (s .digits) cell) 0 (not-false (eqb (at (s .digits) cell) 0) h)))) (λ t. t)
 
 -- a digit that stands is one of 1 to 9
 holds-range : (s : State) (cell : ℕ) → Fit s → isCell cell ≡ true → holdsDigit (s .digits) cell ≡ true → inRange (digitAt s cell) ≡ true
@@ -357,12 +357,12 @@ holds-range s cell f p h =
     in-range (at (s .digits) cell) (omega arith) (f .digits cell p)
 
 -- the slot of an allowed move is sound
-pub slot-sound : (s : State) (m : Move) → Fit s → Allowed s m → isSound s (slotFor s m) ≡ true
-unfolding isSound soundPlace soundErase soundMark slotFor kindOf rowIn columnIn digitIn before struck both either
+pub slot-sound : (s : State) (m : Move) → Fit s → Allowed s m → isSound (s .given) (slotFor s m) ≡ true
+unfolding isSound isFree soundPlace soundErase soundMark slotFor kindOf rowIn columnIn digitIn before struck both either
 slot-sound s (Place row column digit) f a =
-    both-true (both (onGrid row column) (not (isGiven s (cellOf row column))))
+    both-true (both (onGrid row column) (not (isSet (s .given) (cellOf row column))))
     (either (both (inRange digit) (both (leb (digitAt s (cellOf row column)) 9) (ltb (holders (s .notes) digit (peersOf (cellOf row column))) (2 ^ 20)))) false)
-    (both-true (onGrid row column) (not (isGiven s (cellOf row column))) (a .grid) (ap not (a .free)))
+    (both-true (onGrid row column) (not (isSet (s .given) (cellOf row column))) (a .grid) (ap not (a .free)))
     (either-left (both (inRange digit) (both (leb (digitAt s (cellOf row column)) 9) (ltb (holders (s .notes) digit (peersOf (cellOf row column))) (2 ^ 20)))) false
     (both-true (inRange digit) (both (leb (digitAt s (cellOf row column)) 9) (ltb (holders (s .notes) digit (peersOf (cellOf row column))) (2 ^ 20)))
     (a .range)
@@ -370,19 +370,19 @@ slot-sound s (Place row column digit) f a =
     (le-leb (digitAt s (cellOf row column)) 9 (f .digits (cellOf row column) (cell-of-is-cell row column (a .grid))))
     (lt-ltb (holders (s .notes) digit (peersOf (cellOf row column))) (2 ^ 20) (mask-small s (Place row column digit))))))
 slot-sound s (Erase row column) f a =
-    both-true (both (onGrid row column) (not (isGiven s (cellOf row column)))) (either (both (inRange (digitAt s (cellOf row column))) true) false)
-    (both-true (onGrid row column) (not (isGiven s (cellOf row column))) (a .grid) (ap not (a .free)))
+    both-true (both (onGrid row column) (not (isSet (s .given) (cellOf row column)))) (either (both (inRange (digitAt s (cellOf row column))) true) false)
+    (both-true (onGrid row column) (not (isSet (s .given) (cellOf row column))) (a .grid) (ap not (a .free)))
     (either-left (both (inRange (digitAt s (cellOf row column))) true) false
     (both-true (inRange (digitAt s (cellOf row column))) true
     (holds-range s (cellOf row column) f (cell-of-is-cell row column (a .grid)) (a .holds)) refl))
 slot-sound s (WriteMark row column digit) f a =
-    both-true (both (onGrid row column) (not (isGiven s (cellOf row column)))) (both (inRange digit) true)
-    (both-true (onGrid row column) (not (isGiven s (cellOf row column))) (a .grid)
+    both-true (both (onGrid row column) (not (isSet (s .given) (cellOf row column)))) (both (inRange digit) true)
+    (both-true (onGrid row column) (not (isSet (s .given) (cellOf row column))) (a .grid)
     (ap not (empty-free s (cellOf row column) f (cell-of-is-cell row column (a .grid)) (a .empty))))
     (both-true (inRange digit) true (a .range) refl)
 slot-sound s (StrikeMark row column digit) f a =
-    both-true (both (onGrid row column) (not (isGiven s (cellOf row column)))) (both (inRange digit) true)
-    (both-true (onGrid row column) (not (isGiven s (cellOf row column))) (a .grid)
+    both-true (both (onGrid row column) (not (isSet (s .given) (cellOf row column)))) (both (inRange digit) true)
+    (both-true (onGrid row column) (not (isSet (s .given) (cellOf row column))) (a .grid)
     (ap not (empty-free s (cellOf row column) f (cell-of-is-cell row column (a .grid)) (a .empty))))
     (both-true (inRange digit) true (contains-digit (noteAt s (cellOf row column)) digit (a .there)) refl)
 
@@ -396,7 +396,7 @@ empty-note cell q = getD-replicate {A = ℕ} 81 (cell - 1) 0 0 (omega (arith, ce
 -- givens on the grid that ascend and match a solution of digits 1 to 9, fewer than 81, open a fit state
 pub fit-opening : (solution : List ℕ) (gs : List Given) → Each OnGrid gs → Each (Matches solution) gs → ascending gs ≡ true
     → ((cell : ℕ) → isCell cell ≡ true → inRange (at solution cell) ≡ true) → length gs < 81 → Fit (opening gs)
-unfolding opening isGiven digitAt noteAt bit
+unfolding opening digitAt noteAt bit
 fit-opening solution gs on matches up range h =
     record {
       given-81 = length-given-cells gs;

@@ -1,4 +1,4 @@
--- The laws of slots that the code rests on: where the journal ends before a slot, which of the kinds a test of the kind byte leaves, and that soundness asks of a state its givens alone.
+-- The laws of slots that the code rests on: where the journal ends before a slot, and which of the kinds a test of the kind byte leaves.
 -- Assumes nothing.
 use Prim.Native.Nat.{ℕ, _+_, _≤_}
 use mathlib.Core.Path.{_≡_, refl, sym, _∙_}
@@ -14,8 +14,7 @@ use Rattle.journal.specs.declared.DigitChange.the-variants.{Put, None}
 use Rattle.journal.specs.declared.Move.the-variants.{Place, Erase, WriteMark, StrikeMark}
 use Rattle.journal.specs.declared.Slot.{Slot}
 use Rattle.journal.specs.Bytes.{three}
-use Rattle.journal.specs.State.{State, givensOnly, isGiven}
-use Rattle.journal.specs.Slots.{slotStart, slotAt, moveOf, digitChange, soundPlace, soundErase, soundMark, isSound, isFree, soundFor}
+use Rattle.journal.specs.Slots.{slotStart, slotAt, moveOf, digitChange, soundPlace, soundErase, soundMark, isSound, isFree}
 
 -- what lies past the end of the journal reads as 0
 pub slot-past : (journal : List ℕ) (n : ℕ) → length journal ≤ slotStart n → record { kind = 0; row = 0; column = 0; digit = 0; before = 0; struck = 0 } ≡ slotAt journal n
@@ -23,12 +22,6 @@ unfolding slotAt three
 slot-past journal n h =
     let past : (k : ℕ) → getD journal (slotStart n + k) 0 ≡ 0 = λ k. List·getD-eq-default journal 0 (omega arith) in
     sym (rw (List·getD-eq-default journal 0 h, past 1, past 2, past 3, past 4, past 5, past 6, past 7))
-
--- ---- soundness asks of a state its givens alone
-
-pub sound-for : (s : State) (slot : Slot) → isSound s slot ≡ soundFor (s .given) slot
-unfolding isSound soundFor isGiven givensOnly
-sound-for s slot = refl
 
 -- ---- the kinds: 2 place, 3 erase, 4 and 5 the marks
 
@@ -64,30 +57,30 @@ module _ (k : ℕ) (place erase mark : Bool) where
 
 -- so a slot is sound by the ranges of its kind, where its cell is free
 module _ (given : List ℕ) (slot : Slot) where
-  of-kind : soundFor given slot ≡ both (isFree given (slot .row) (slot .column)) (ofKind (slot .kind) (soundPlace slot) (soundErase slot) (soundMark slot))
-  unfolding soundFor isSound isFree ofKind
+  of-kind : isSound given slot ≡ both (isFree given (slot .row) (slot .column)) (ofKind (slot .kind) (soundPlace slot) (soundErase slot) (soundMark slot))
+  unfolding isSound isFree ofKind
   of-kind = refl
 
-  pub sound-not-free : isFree given (slot .row) (slot .column) ≡ false → soundFor given slot ≡ false
+  pub sound-not-free : isFree given (slot .row) (slot .column) ≡ false → isSound given slot ≡ false
   sound-not-free p = of-kind ∙ both-false-left _ _ p
 
   module _ (p : isFree given (slot .row) (slot .column) ≡ true) where
-    free : soundFor given slot ≡ ofKind (slot .kind) (soundPlace slot) (soundErase slot) (soundMark slot)
+    free : isSound given slot ≡ ofKind (slot .kind) (soundPlace slot) (soundErase slot) (soundMark slot)
     free = of-kind ∙ both-first _ _ p
 
-    pub sound-place : slot .kind ≡ 2 → soundFor given slot ≡ soundPlace slot
+    pub sound-place : slot .kind ≡ 2 → isSound given slot ≡ soundPlace slot
     sound-place e = free ∙ kind-place _ _ _ _ e
 
-    pub sound-erase : slot .kind ≡ 3 → soundFor given slot ≡ soundErase slot
+    pub sound-erase : slot .kind ≡ 3 → isSound given slot ≡ soundErase slot
     sound-erase e = free ∙ kind-erase _ _ _ _ e
 
-    pub sound-write : slot .kind ≡ 4 → soundFor given slot ≡ soundMark slot
+    pub sound-write : slot .kind ≡ 4 → isSound given slot ≡ soundMark slot
     sound-write e = free ∙ kind-write _ _ _ _ e
 
-    pub sound-strike : slot .kind ≡ 5 → soundFor given slot ≡ soundMark slot
+    pub sound-strike : slot .kind ≡ 5 → isSound given slot ≡ soundMark slot
     sound-strike e = free ∙ kind-strike _ _ _ _ e
 
-    pub sound-none : (slot .kind ≡ 2 → ⊥) → (slot .kind ≡ 3 → ⊥) → (slot .kind ≡ 4 → ⊥) → (slot .kind ≡ 5 → ⊥) → soundFor given slot ≡ false
+    pub sound-none : (slot .kind ≡ 2 → ⊥) → (slot .kind ≡ 3 → ⊥) → (slot .kind ≡ 4 → ⊥) → (slot .kind ≡ 5 → ⊥) → isSound given slot ≡ false
     sound-none a b c d = free ∙ kind-none _ _ _ _ a b c d
 
 -- ---- the move of a slot, and its digit change, by its kind

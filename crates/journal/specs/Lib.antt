@@ -1,4 +1,5 @@
 pub mod Limits
+pub mod Kinds
 pub mod Bytes
 pub mod State
 pub mod InTurn

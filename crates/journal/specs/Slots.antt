@@ -13,14 +13,21 @@ use Rattle.journal.specs.declared.DigitChange.the-variants.{Put, None}
 use Rattle.journal.specs.declared.Move.{Move}
 use Rattle.journal.specs.declared.Move.the-variants.{Place, Erase, WriteMark, StrikeMark}
 use Rattle.journal.specs.declared.Slot.{Slot}
+use Rattle.puzzle.specs.Givens.{isSet}
 use Rattle.journal.specs.Limits.{slotBytes}
+use Rattle.journal.specs.Kinds.{placeKind, eraseKind, writeKind, strikeKind}
 use Rattle.journal.specs.Bytes.{part, low, second, third, three}
-use Rattle.journal.specs.State.{State, givensOnly, isGiven, kindOf, rowIn, columnIn, digitIn, before, struck}
+use Rattle.journal.specs.State.{State, kindOf, rowIn, columnIn, digitIn, before, struck}
 
 -- the slot of a move with what it displaces, made in a state
 unfoldable pub slotFor : State → Move → Slot
 slotFor s m =
     record { kind = kindOf m; row = rowIn m; column = columnIn m; digit = digitIn m; before = before s m; struck = struck s m }
+
+-- the slot of a move that strikes no mark
+abbrev pub plainSlot : ℕ → ℕ → ℕ → ℕ → ℕ → Slot
+plainSlot kind row column digit before =
+    record { kind = kind; row = row; column = column; digit = digit; before = before; struck = 0 }
 
 -- the eight bytes of a slot
 unfoldable pub bytesOf : Slot → List ℕ
@@ -59,9 +66,13 @@ slotAt journal n =
 -- the move of a slot, by its kind
 unfoldable pub moveOf : Slot → Move
 moveOf slot =
-    pick (eqb (slot .kind) 2) (Place (slot .row) (slot .column) (slot .digit))
-    (pick (eqb (slot .kind) 3) (Erase (slot .row) (slot .column))
-    (pick (eqb (slot .kind) 4) (WriteMark (slot .row) (slot .column) (slot .digit)) (StrikeMark (slot .row) (slot .column) (slot .digit))))
+    pick (eqb (slot .kind) placeKind) (Place (slot .row) (slot .column) (slot .digit))
+    (pick (eqb (slot .kind) eraseKind) (Erase (slot .row) (slot .column))
+    (pick (eqb (slot .kind) writeKind) (WriteMark (slot .row) (slot .column) (slot .digit)) (StrikeMark (slot .row) (slot .column) (slot .digit))))
+
+-- a position is on the grid and no given's
+unfoldable pub isFree : List ℕ → ℕ → ℕ → Bool
+isFree given row column = both (onGrid row column) (not (isSet given (cellOf row column)))
 
 -- the fields lie in their ranges for each kind. Place: a digit, a digit before of 0 to 9, a mask of twenty bits
 unfoldable pub soundPlace : Slot → Bool
@@ -76,21 +87,14 @@ unfoldable pub soundMark : Slot → Bool
 soundMark slot = both (inRange (slot .digit)) (both (eqb (slot .before) 0) (eqb (slot .struck) 0))
 
 -- a slot is sound when its fields lie in these ranges and its row and column are on the grid and no given's
-unfoldable pub isSound : State → Slot → Bool
-isSound s slot =
-    both (both (onGrid (slot .row) (slot .column)) (not (isGiven s (cellOf (slot .row) (slot .column)))))
-    (either (both (eqb (slot .kind) 2) (soundPlace slot))
-    (either (both (eqb (slot .kind) 3) (soundErase slot)) (both (either (eqb (slot .kind) 4) (eqb (slot .kind) 5)) (soundMark slot))))
-
--- a position is on the grid and no given's
-unfoldable pub isFree : List ℕ → ℕ → ℕ → Bool
-isFree given row column = both (onGrid row column) (not (isGiven (givensOnly given) (cellOf row column)))
-
--- a slot is sound, as the givens alone tell
-unfoldable pub soundFor : List ℕ → Slot → Bool
-soundFor given slot = isSound (givensOnly given) slot
+unfoldable pub isSound : List ℕ → Slot → Bool
+isSound given slot =
+    both (isFree given (slot .row) (slot .column))
+    (either (both (eqb (slot .kind) placeKind) (soundPlace slot))
+    (either (both (eqb (slot .kind) eraseKind) (soundErase slot))
+    (both (either (eqb (slot .kind) writeKind) (eqb (slot .kind) strikeKind)) (soundMark slot))))
 
 -- what a slot's move does to the digit of its cell: a place puts its digit there, an erase empties it, and a mark changes no digit
 unfoldable pub digitChange : Slot → DigitChange
 digitChange slot =
-    pick (eqb (slot .kind) 2) (Put (slot .before) (slot .digit)) (pick (eqb (slot .kind) 3) (Put (slot .before) 0) None)
+    pick (eqb (slot .kind) placeKind) (Put (slot .before) (slot .digit)) (pick (eqb (slot .kind) eraseKind) (Put (slot .before) 0) None)

@@ -1,11 +1,11 @@
 -- What a move does (board.rs, note.rs): the four moves performed, what each displaces, the same move performed again from its slot, and taken back.
 -- A state is what the moves read and change: which cells are givens, the 81 digits, the 81 notes, and the status. Flags are 1 for yes and 0 for no.
 -- Assumes nothing.
-use Prim.Native.Nat.{ℕ, _+_, _-_, _*_, _/_, _%_}
-use mathlib.Core.Bool.{Bool, true, false, not}
+use Prim.Native.Nat.{ℕ, _+_, _*_, _/_, _%_}
+use mathlib.Core.Bool.{Bool, true, not}
 use mathlib.Core.List.{List, [], _∷_}
 use lib.Dec.{eqb}
-use lib.ListN.{getD, replicate}
+use lib.ListN.{replicate}
 use Rattle.sudoku.specs.Tests.{pick, both, either, bit}
 use Rattle.sudoku.specs.Grid.{cellOf, at, put, peersOf}
 use Rattle.note.specs.Note.{contains, withMark, without}
@@ -14,6 +14,7 @@ use Rattle.puzzle.specs.Givens.{digitsOf, givenCells, isSet}
 use Rattle.puzzle.specs.Puzzle.{holdsDigit, settled}
 use Rattle.journal.specs.declared.Move.{Move}
 use Rattle.journal.specs.declared.Move.the-variants.{Place, Erase, WriteMark, StrikeMark}
+use Rattle.journal.specs.Kinds.{placeKind, eraseKind, writeKind, strikeKind}
 
 pub record State : Type 0 where
   pub given : List ℕ
@@ -25,14 +26,7 @@ pub record State : Type 0 where
 unfoldable pub opening : List Given → State
 opening gs = record { given = givenCells gs; digits = digitsOf gs; notes = replicate 81 0; solved = 0 }
 
--- what is asked of the givens alone is asked of this state
-unfoldable pub givensOnly : List ℕ → State
-givensOnly given = record { given = given; digits = []; notes = []; solved = 0 }
-
--- of a cell: whether it is a given, its digit (0 for none), its kept note
-unfoldable pub isGiven : State → ℕ → Bool
-isGiven s cell = isSet (s .given) cell
-
+-- of a cell: its digit (0 for none), its kept note. Whether it is a given its flag alone says: isSet (s .given) cell
 unfoldable pub digitAt : State → ℕ → ℕ
 digitAt s cell = at (s .digits) cell
 
@@ -41,7 +35,7 @@ noteAt s cell = at (s .notes) cell
 
 -- a player's digit is a digit in a cell that is no given
 unfoldable pub holdsPlayersDigit : State → ℕ → Bool
-holdsPlayersDigit s cell = both (holdsDigit (s .digits) cell) (not (isGiven s cell))
+holdsPlayersDigit s cell = both (holdsDigit (s .digits) cell) (not (isSet (s .given) cell))
 
 -- marks are accepted where the cell holds no digit
 unfoldable pub acceptsMarks : State → ℕ → Bool
@@ -112,13 +106,10 @@ digitIn (WriteMark row column digit) = digit
 digitIn (StrikeMark row column digit) = digit
 
 unfoldable pub kindOf : Move → ℕ
-kindOf (Place row column digit) = 2
-kindOf (Erase row column) = 3
-kindOf (WriteMark row column digit) = 4
-kindOf (StrikeMark row column digit) = 5
-
-unfoldable pub target : Move → ℕ
-target m = cellOf (rowIn m) (columnIn m)
+kindOf (Place row column digit) = placeKind
+kindOf (Erase row column) = eraseKind
+kindOf (WriteMark row column digit) = writeKind
+kindOf (StrikeMark row column digit) = strikeKind
 
 -- a move performed.
 -- Place sets the digit and strikes it from the kept note of every peer that has it, filled peers too; the target's own note stays.

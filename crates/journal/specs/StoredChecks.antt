@@ -7,12 +7,12 @@ use lib.Dec.{leb, eqb}
 use lib.ListN.{getD}
 use Rattle.sudoku.specs.Tests.{both, bit}
 use Rattle.sudoku.specs.Grid.{inRange, onGrid, cellOf, at}
+use Rattle.journal.specs.declared.Asked.{Asked}
 use Rattle.journal.specs.Limits.{maxMoves, checkBytes}
 use Rattle.journal.specs.Bytes.{low, second, two}
-use Rattle.journal.specs.State.{State, givensOnly, isGiven}
 use Rattle.journal.specs.Slots.{isFree}
 
--- a check: standing, row, column, digit, and the verdict, whether the digit is the solution's
+-- a check as it is stored: what was asked, and the verdict, whether the digit is the solution's
 pub record Stored : Type 0 where
   pub standing : ℕ
   pub row : ℕ
@@ -20,24 +20,20 @@ pub record Stored : Type 0 where
   pub digit : ℕ
   pub right : Bool
 
-abbrev pub storedCheck : ℕ → ℕ → ℕ → ℕ → Bool → Stored
-storedCheck standing row column digit right =
-    record { standing = standing; row = row; column = column; digit = digit; right = right }
+abbrev pub stored : Asked → Bool → Stored
+stored c right = record { standing = c .standing; row = c .row; column = c .column; digit = c .digit; right = right }
 
 -- the verdict on a digit at a cell
 unfoldable pub isRight : List ℕ → ℕ → ℕ → Bool
 isRight solution cell digit = eqb (at solution cell) digit
 
+-- a check with its verdict
+abbrev pub judged : List ℕ → Asked → Stored
+judged solution c = stored c (isRight solution (cellOf (c .row) (c .column)) (c .digit))
+
 -- the check of a digit at a position, asked while `standing` moves stand
-unfoldable pub judge : List ℕ → ℕ → ℕ → ℕ → ℕ → Stored
-judge solution standing row column digit =
-    record {
-      standing = standing;
-      row = row;
-      column = column;
-      digit = digit;
-      right = isRight solution (cellOf row column) digit;
-    }
+abbrev pub judge : List ℕ → ℕ → ℕ → ℕ → ℕ → Stored
+judge solution standing row column digit = judged solution (record { standing = standing; row = row; column = column; digit = digit })
 
 -- its six bytes: standing (two, low first), row, column, digit, verdict (1 when the digit equals the solution's, else 0)
 unfoldable pub storedBytes : Stored → List ℕ
@@ -55,30 +51,25 @@ checkStart n = checkBytes * (n - 1)
 unfoldable pub verdictByte : List ℕ → ℕ → ℕ
 verdictByte checks n = getD checks (checkStart n + 5) 0
 
--- check n, read
-unfoldable pub storedAt : List ℕ → ℕ → Stored
-storedAt checks n =
+-- check n, read: what was asked, and the whole of it
+abbrev pub askedIn : List ℕ → ℕ → Asked
+askedIn checks n =
     let start = checkStart n in
     record {
       standing = two (getD checks start 0) (getD checks (start + 1) 0);
       row = getD checks (start + 2) 0;
       column = getD checks (start + 3) 0;
       digit = getD checks (start + 4) 0;
-      right = eqb (verdictByte checks n) 1;
     }
 
+unfoldable pub storedAt : List ℕ → ℕ → Stored
+storedAt checks n = stored (askedIn checks n) (eqb (verdictByte checks n) 1)
+
 -- a stored check is sound when standing is 1 to 1,024, the digit 1 to 9, the verdict 0 or 1, and row and column are on the grid and no given's
-unfoldable pub isSoundCheck : State → List ℕ → ℕ → Bool
-isSoundCheck s checks n =
-    let c = storedAt checks n in
-    both (both (onGrid (c .row) (c .column)) (not (isGiven s (cellOf (c .row) (c .column)))))
-    (both (both (leb 1 (c .standing)) (leb (c .standing) maxMoves)) (both (inRange (c .digit)) (leb (verdictByte checks n) 1)))
+unfoldable pub soundStored : List ℕ → Asked → ℕ → Bool
+soundStored given c verdict =
+    both (isFree given (c .row) (c .column))
+    (both (both (leb 1 (c .standing)) (leb (c .standing) maxMoves)) (both (inRange (c .digit)) (leb verdict 1)))
 
--- the same of its fields and its verdict byte, as the givens alone tell
-unfoldable pub soundStored : List ℕ → ℕ → ℕ → ℕ → ℕ → ℕ → Bool
-soundStored given standing row column digit verdict =
-    both (isFree given row column)
-    (both (both (leb 1 standing) (leb standing maxMoves)) (both (inRange digit) (leb verdict 1)))
-
-unfoldable pub soundCheckFor : List ℕ → List ℕ → ℕ → Bool
-soundCheckFor given checks n = isSoundCheck (givensOnly given) checks n
+unfoldable pub isSoundCheck : List ℕ → List ℕ → ℕ → Bool
+isSoundCheck given checks n = soundStored given (askedIn checks n) (verdictByte checks n)

@@ -5,6 +5,15 @@ pub mod notes;
 pub mod slots;
 pub mod steps;
 
+// The kind bytes: of a given, the four moves, the count of undone moves, and a check. Moves have theirs in slots and in records, the others in records.
+pub const GIVEN: u8 = 1;
+pub const PLACE: u8 = 2;
+pub const ERASE: u8 = 3;
+pub const WRITE_MARK: u8 = 4;
+pub const STRIKE_MARK: u8 = 5;
+pub const UNDONE: u8 = 6;
+pub const CHECK: u8 = 7;
+
 // Moves that a journal holds.
 pub const MAX_MOVES: usize = 1024;
 // Checks that the check memory holds.
@@ -34,6 +43,14 @@ pub struct Slot {
     pub digit: u8,
     pub before: u8,
     pub struck: u32,
+}
+
+// A check as it is asked: how many moves stand, the cell, and the digit that is asked about.
+pub struct Asked {
+    pub standing: usize,
+    pub row: u8,
+    pub column: u8,
+    pub digit: u8,
 }
 
 // What a move does to the digit of its cell: the digit that stood before and the one that stands after, 0 for an empty cell. A mark changes none.

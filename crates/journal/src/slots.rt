@@ -1,8 +1,12 @@
 // Slots: move n is slot n of the lent journal, eight bytes. The layout is read and written here and nowhere else.
 use crate::DigitChange;
+use crate::ERASE;
 use crate::Move;
+use crate::PLACE;
 use crate::SLOT_BYTES;
+use crate::STRIKE_MARK;
 use crate::Slot;
+use crate::WRITE_MARK;
 use puzzle::byte_at;
 use puzzle::index_of;
 use sudoku::SIDE;
@@ -13,8 +17,8 @@ ghost use mathlib.Core.Path.{_≡_};
 ghost use Prim.Native.Nat.{_*_};
 ghost use Rattle.journal.specs.Limits.{slotBytes};
 ghost use Rattle.journal.specs.Bytes.{laid, three as threeBytes};
-ghost use Rattle.journal.specs.State.{givensOnly, isGiven};
-ghost use Rattle.journal.specs.Slots.{bytesOf, slotAt, moveOf, soundPlace, soundErase, soundMark, soundFor, isFree, digitChange as digitChangeOf};
+ghost use Rattle.puzzle.specs.Givens.{isSet};
+ghost use Rattle.journal.specs.Slots.{bytesOf, slotAt, moveOf, soundPlace, soundErase, soundMark, isSound, isFree, digitChange as digitChangeOf};
 
 // A mask has a bit for each of the twenty peers, so it is below this.
 const MASK_END: u32 = 1 << 20;
@@ -78,20 +82,20 @@ pub fn write_slot(journal: &mut [u8], standing: usize, slot: Slot)
 pub fn move_of(slot: Slot) -> Move
     ensures { λ r. ⌜ r ≡ moveOf slot ⌝ }
 {
-    if slot.kind == 2 {
+    if slot.kind == PLACE {
         return Move::Place {
             row: slot.row,
             column: slot.column,
             digit: slot.digit,
         };
     }
-    if slot.kind == 3 {
+    if slot.kind == ERASE {
         return Move::Erase {
             row: slot.row,
             column: slot.column,
         };
     }
-    if slot.kind == 4 {
+    if slot.kind == WRITE_MARK {
         return Move::WriteMark {
             row: slot.row,
             column: slot.column,
@@ -109,13 +113,13 @@ pub fn move_of(slot: Slot) -> Move
 pub fn digit_change(slot: Slot) -> DigitChange
     ensures { λ r. ⌜ r ≡ digitChangeOf slot ⌝ }
 {
-    if slot.kind == 2 {
+    if slot.kind == PLACE {
         return DigitChange::Put {
             before: slot.before,
             after: slot.digit,
         };
     }
-    if slot.kind == 3 {
+    if slot.kind == ERASE {
         return DigitChange::Put {
             before: slot.before,
             after: 0,
@@ -126,7 +130,7 @@ pub fn digit_change(slot: Slot) -> DigitChange
 
 // Whether a cell is a given. No cell beyond the grid is.
 pub fn is_given(given: &[u8; 81], cell: usize) -> bool
-    ensures { λ r. ⌜ r ≡ isGiven (givensOnly (now (given .entry))) cell ⌝ }
+    ensures { λ r. ⌜ r ≡ isSet (now (given .entry)) cell ⌝ }
 {
     let all: &[u8] = given;
     let at = index_of(cell);
@@ -187,21 +191,21 @@ fn sound_mark(slot: Slot) -> bool
 
 // Whether a slot is sound: its kind is one of the four, its fields lie in that kind's ranges, and its cell is on the grid and no given's.
 pub fn is_sound(given: &[u8; 81], slot: Slot) -> bool
-    ensures { λ r. ⌜ r ≡ soundFor (now (given .entry)) slot ⌝ }
+    ensures { λ r. ⌜ r ≡ isSound (now (given .entry)) slot ⌝ }
 {
     if !is_free(given, slot.row, slot.column) {
         return false;
     }
-    if slot.kind == 2 {
+    if slot.kind == PLACE {
         return sound_place(slot);
     }
-    if slot.kind == 3 {
+    if slot.kind == ERASE {
         return sound_erase(slot);
     }
-    if slot.kind == 4 {
+    if slot.kind == WRITE_MARK {
         return sound_mark(slot);
     }
-    if slot.kind == 5 {
+    if slot.kind == STRIKE_MARK {
         return sound_mark(slot);
     }
     false

@@ -16,12 +16,13 @@ use Rattle.journal.specs.Limits.{maxMoves, maxChecks, slotBytes, journalBytes, 
 use Rattle.journal.specs.Bytes.{part, over}
 use Rattle.journal.specs.StoredChecks.{storedBytes}
 use Rattle.board.specs.declared.Board.{Board}
-use Rattle.board.specs.Board.{stateOf, isBoard}
+use Rattle.board.specs.Board.{stateOf, isBoard, lentTests}
 use Rattle.board.specs.Open.{answer}
-use Rattle.play.specs.Play.{played, moveTests, lentTests, callTests, recordMove, playOf, slotRefusal, undoTests, undone, undoOf, redoTests, redone, redoOf, latestNumber, latestPart, nextNumber, nextPart}
+use Rattle.play.specs.Play.{played, moveTests, callTests, recordMove, playOf, slotRefusal, undoTests, undone, undoOf, redoTests, redone, redoOf, latestNumber, latestPart, nextNumber, nextPart}
 use Rattle.play.specs.Check.{checked, checkTests, checkOn, withCheck, checkOf}
 use Rattle.journal.specs.Slots.{slotAt, slotPart, slotStart}
-use Rattle.play.proofs.Joined.{moves-numbered, join-last}
+use Rattle.play.specs.Parts.{orNumber}
+use Rattle.play.proofs.Joined.{moves-numbered, joined, join-last}
 
 -- ---- the counts of a board value that number 2 does not refuse
 
@@ -47,7 +48,7 @@ pub record Lent (b : Board) (journal : List ℕ) (ts : List Test) : Type 0 where
   pub counts : Counted b
   pub rest : first ts ≡ 0
 
-pub lent-passed : (b : Board) (journal : List ℕ) (ts : List Test) → first (lentTests b journal ts) ≡ 0 → Lent b journal ts
+pub lent-passed : (b : Board) (journal : List ℕ) (ts : List Test) → first (lentTests (eqb (length journal) journalBytes) b ts) ≡ 0 → Lent b journal ts
 unfolding lentTests
 lent-passed b journal ts p =
     let one = passed _ 0 _ p in
@@ -59,6 +60,17 @@ lent-passed b journal ts p =
     }
 
 -- ---- place, erase and the marks
+
+-- the number of a call, found from those of what is lent and of the move
+pub call-number : (b : Board) (journal : List ℕ) (m : Move) {lent own : ℕ} → lent ≡ first (lentTests (eqb (length journal) journalBytes) b []) → own ≡ first (moveTests (stateOf b) m)
+    → orNumber lent (orNumber own (first ((eqb (b .standing) maxMoves ⇒ 15) ∷ []))) ≡ first (callTests b journal m)
+unfolding callTests lentTests
+call-number b journal m e f =
+    let full : List Test = (eqb (b .standing) maxMoves ⇒ 15) ∷ [] in
+    let two : List Test = (not (eqb (length journal) journalBytes) ⇒ 1) ∷ (not (isBoard b) ⇒ 2) ∷ [] in
+    (λ i. orNumber (e i) (orNumber (f i) (first full)))
+    ∙ ap (λ (n : ℕ). orNumber (first two) n) (joined (moveTests (stateOf b) m) full (moves-numbered (stateOf b) m))
+    ∙ joined two (moveTests (stateOf b) m ++ full) (omega arith, (omega arith, tt))
 
 module _ (b : Board) (journal : List ℕ) (m : Move) (n : ℕ) (e : n ≡ first (callTests b journal m)) where
   pub play-refused : (n ≡ 0 → ⊥) → played (refusal n 0 0) b journal ≡ playOf b journal m
@@ -132,7 +144,7 @@ module _ (b : Board) (checks : List ℕ) (row column n : ℕ) (e : n ≡ first (
 
   -- an accepted check has room: the memory has its length, and fewer checks than it holds are stored
   pub check-room : n ≡ 0 → (length checks ≡ checkMemory) × (b .checks < maxChecks)
-  unfolding checkTests
+  unfolding checkTests lentTests
   check-room p =
       let one = passed _ 0 _ (sym e ∙ p) in
       let two = passed _ 1 _ (one .1) in

@@ -5,10 +5,14 @@ use mathlib.Core.Path.{_≡_, refl, sym, _∙_}
 use mathlib.Core.Bool.{Bool, true, false}
 use mathlib.Core.List.{List, [], _∷_, _++_}
 use native.Mathlib.Omega.{arith}
+use lib.Dec.{eqb}
+use borrow.Author.Tests.{eqb-true, eqb-false}
 use Rattle.sudoku.specs.Tests.{Test, _⇒_, first, pick}
+use Rattle.sudoku.proofs.Walks.{by-test, pick-true, pick-false}
 use Rattle.journal.specs.declared.Move.{Move}
 use Rattle.journal.specs.declared.Move.the-variants.{Place, Erase, WriteMark, StrikeMark}
 use Rattle.journal.specs.State.{State}
+use Rattle.play.specs.Parts.{orNumber}
 use Rattle.play.specs.Play.{moveTests}
 
 -- no test of the list has the number 0, which says that nothing is refused
@@ -52,6 +56,14 @@ unfolding first
 join-passed [] us q p = refl
 join-passed (t ∷ ts) us q p =
     step-passed (t .holds) (t .number) (first (ts ++ us)) (first ts) (first us) (q .0) p (join-passed ts us (q .1))
+
+-- so the number of a joined list is that of its first part, and where that is 0, of its second
+pub joined : (ts us : List Test) → Numbered ts → orNumber (first ts) (first us) ≡ first (ts ++ us)
+unfolding orNumber
+joined ts us q =
+    by-test (eqb (first ts) 0)
+    (λ t. pick-true (eqb (first ts) 0) (first us) (first ts) t ∙ sym (join-passed ts us q (eqb-true (first ts) 0 t)))
+    (λ t. pick-false (eqb (first ts) 0) (first us) (first ts) t ∙ sym (join-refused ts us (eqb-false (first ts) 0 t)))
 
 -- what passes a joined list passes its second part
 pub join-last : (ts us : List Test) → Numbered ts → first (ts ++ us) ≡ 0 → first us ≡ 0

@@ -1,4 +1,3 @@
 pub mod Joined
 pub mod Accepted
-pub mod Slots
 pub mod Parts

@@ -16,18 +16,17 @@ use Rattle.journal.specs.State.{digitAt, holdsPlayersDigit}
 use Rattle.journal.specs.StoredChecks.{Stored, judge, storedBytes}
 use Rattle.board.specs.declared.Board.{Board}
 use Rattle.board.specs.declared.Checked.{Checked}
-use Rattle.board.specs.Board.{stateOf, countsOf, boardOf, isBoard}
+use Rattle.board.specs.Board.{stateOf, countsOf, boardOf, lentTests}
 
 -- 1 2 3 4 6 16
 unfoldable pub checkTests : Board → List ℕ → ℕ → ℕ → List Test
 checkTests b checks row column =
-    (not (eqb (length checks) checkMemory) ⇒ 1)
-    ∷ (not (isBoard b) ⇒ 2)
-    ∷ (not (onGrid row column) ⇒ 3)
+    lentTests (eqb (length checks) checkMemory) b
+    ((not (onGrid row column) ⇒ 3)
     ∷ (isOn (b .solved) ⇒ 4)
     ∷ (not (holdsPlayersDigit (stateOf b) (cellOf row column)) ⇒ 6)
     ∷ (eqb (b .checks) maxChecks ⇒ 16)
-    ∷ []
+    ∷ [])
 
 -- the check of the digit that stands at a cell
 unfoldable pub checkOn : Board → ℕ → ℕ → Stored

@@ -7,7 +7,7 @@ use mathlib.Core.Bool.{Bool, not}
 use mathlib.Core.List.{List, [], _∷_, _++_}
 use lib.Dec.{leb, eqb}
 use lib.ListN.{length}
-use Rattle.puzzle.specs.Givens.{isOn}
+use Rattle.puzzle.specs.Givens.{isOn, isSet}
 use Rattle.sudoku.specs.Tests.{Test, _⇒_, first, pick, both}
 use Rattle.sudoku.specs.Grid.{inRange, onGrid, cellOf}
 use Rattle.note.specs.Note.{contains}
@@ -18,12 +18,12 @@ use Rattle.journal.specs.declared.Move.the-variants.{Place, Erase, WriteMark, S
 use Rattle.journal.specs.declared.Slot.{Slot}
 use Rattle.journal.specs.Limits.{maxMoves, slotBytes, journalBytes}
 use Rattle.journal.specs.Bytes.{over}
-use Rattle.journal.specs.State.{State, isGiven, digitAt, noteAt, holdsPlayersDigit, acceptsMarks, perform, performAgain, takeBack, standsAsLeft, standsAsFound}
+use Rattle.journal.specs.State.{State, digitAt, noteAt, holdsPlayersDigit, acceptsMarks, perform, performAgain, takeBack, standsAsLeft, standsAsFound}
 use Rattle.journal.specs.Slots.{slotFor, bytesOf, slotAt, slotPart, moveOf, isSound}
 use Rattle.journal.specs.Counts.{recorded, takenBack, retaken}
 use Rattle.board.specs.declared.Board.{Board}
 use Rattle.board.specs.declared.Answer.{Answer}
-use Rattle.board.specs.Board.{stateOf, countsOf, moved, isBoard}
+use Rattle.board.specs.Board.{stateOf, countsOf, moved, lentTests}
 use Rattle.board.specs.Open.{answer}
 
 -- what a play call answers, and the lent journal afterwards
@@ -39,7 +39,7 @@ unfoldable pub moveTests : State → Move → List Test
 moveTests s (Place row column digit) =
     (not (onGrid row column) ⇒ 3)
     ∷ (isOn (s .solved) ⇒ 4)
-    ∷ (isGiven s (cellOf row column) ⇒ 5)
+    ∷ (isSet (s .given) (cellOf row column) ⇒ 5)
     ∷ (not (inRange digit) ⇒ 8)
     ∷ (eqb (digitAt s (cellOf row column)) digit ⇒ 9)
     ∷ []
@@ -59,19 +59,10 @@ moveTests s (StrikeMark row column digit) =
     ∷ (not (contains (noteAt s (cellOf row column)) digit) ⇒ 11)
     ∷ []
 
--- 1 and 2, which every call with a board and a lent journal tests first; of the journal they ask its length alone
-unfoldable pub lentBy : Board → ℕ → List Test → List Test
-lentBy b bytes tests = (not (eqb bytes journalBytes) ⇒ 1) ∷ (not (isBoard b) ⇒ 2) ∷ tests
-
-unfoldable pub lentNumber : Board → ℕ → ℕ
-lentNumber b bytes = first (lentBy b bytes [])
-
-unfoldable pub lentTests : Board → List ℕ → List Test → List Test
-lentTests b journal tests = (not (eqb (length journal) journalBytes) ⇒ 1) ∷ (not (isBoard b) ⇒ 2) ∷ tests
-
 -- place: 1 2 3 4 5 8 9 15; erase: 1 2 3 4 6 15; write mark: 1 2 3 4 7 8 10 15; strike mark: 1 2 3 4 7 11 15
 unfoldable pub callTests : Board → List ℕ → Move → List Test
-callTests b journal m = lentTests b journal (moveTests (stateOf b) m ++ ((eqb (b .standing) maxMoves ⇒ 15) ∷ []))
+callTests b journal m =
+    lentTests (eqb (length journal) journalBytes) b (moveTests (stateOf b) m ++ ((eqb (b .standing) maxMoves ⇒ 15) ∷ []))
 
 -- a move performed and recorded: its one slot is written at the standing count, everything else of the journal stays
 unfoldable pub recordMove : Board → List ℕ → Move → Played
@@ -101,18 +92,20 @@ unfoldable pub slotRefusal : ℕ → ℕ → Refusal
 slotRefusal n slot = refusal n (pick (eqb n 14) slot 0) 0
 
 -- 14 of slot n: it is unsound
-unfoldable pub unsoundSlot : State → List ℕ → ℕ → Refusal
-unsoundSlot s journal n = refusedIf (not (isSound s (slotAt journal n))) (refusal 14 n 0)
+unfoldable pub unsoundSlot : List ℕ → List ℕ → ℕ → Refusal
+unsoundSlot given journal n = refusedIf (not (isSound given (slotAt journal n))) (refusal 14 n 0)
 
 -- the slot is sound, and what it changed stands as the move left it
 unfoldable pub canTakeBack : State → Slot → Bool
-canTakeBack s slot = both (isSound s slot) (standsAsLeft s (moveOf slot) (slot .struck))
+canTakeBack s slot = both (isSound (s .given) slot) (standsAsLeft s (moveOf slot) (slot .struck))
 
--- undo: 1 2 4 12 14
+-- undo: 1 2 4 12, which need no slot and of the journal its length alone, and 14
+unfoldable pub undoBefore : Board → ℕ → List Test
+undoBefore b bytes = lentTests (eqb bytes journalBytes) b ((isOn (b .solved) ⇒ 4) ∷ (eqb (b .standing) 0 ⇒ 12) ∷ [])
+
 unfoldable pub undoTests : Board → List ℕ → List Test
 undoTests b journal =
-    lentTests b journal
-    ((isOn (b .solved) ⇒ 4) ∷ (eqb (b .standing) 0 ⇒ 12) ∷ (not (canTakeBack (stateOf b) (slotAt journal (b .standing))) ⇒ 14) ∷ [])
+    undoBefore b (length journal) ++ ((not (canTakeBack (stateOf b) (slotAt journal (b .standing))) ⇒ 14) ∷ [])
 
 -- the latest standing move taken back as its slot says; no slot is written
 unfoldable pub undone : Board → Slot → Board
@@ -125,16 +118,15 @@ undoOf b journal =
 
 -- the slot is sound, and what it changes stands as the move found it
 unfoldable pub canRetake : State → Slot → Bool
-canRetake s slot = both (isSound s slot) (standsAsFound s (moveOf slot) (slot .before) (slot .struck))
+canRetake s slot = both (isSound (s .given) slot) (standsAsFound s (moveOf slot) (slot .before) (slot .struck))
 
--- redo: 1 2 4 13 14
+-- redo: 1 2 4 13, and 14
+unfoldable pub redoBefore : Board → ℕ → List Test
+redoBefore b bytes = lentTests (eqb bytes journalBytes) b ((isOn (b .solved) ⇒ 4) ∷ (leb (b .made) (b .standing) ⇒ 13) ∷ [])
+
 unfoldable pub redoTests : Board → List ℕ → List Test
 redoTests b journal =
-    lentTests b journal
-    ((isOn (b .solved) ⇒ 4)
-    ∷ (leb (b .made) (b .standing) ⇒ 13)
-    ∷ (not (canRetake (stateOf b) (slotAt journal (b .standing + 1))) ⇒ 14)
-    ∷ [])
+    redoBefore b (length journal) ++ ((not (canRetake (stateOf b) (slotAt journal (b .standing + 1))) ⇒ 14) ∷ [])
 
 -- the next move performed again as its slot says; no slot is written
 unfoldable pub redone : Board → Slot → Board
@@ -147,14 +139,14 @@ redoOf b journal =
 
 -- the latest standing move: 1 2 12; the part of the lent journal that holds it, an empty part after a refusal. A solved board is no obstacle
 unfoldable pub latestNumber : Board → List ℕ → ℕ
-latestNumber b journal = first (lentTests b journal ((eqb (b .standing) 0 ⇒ 12) ∷ []))
+latestNumber b journal = first (lentTests (eqb (length journal) journalBytes) b ((eqb (b .standing) 0 ⇒ 12) ∷ []))
 
 unfoldable pub latestPart : Board → List ℕ → List ℕ
 latestPart b journal = pick (eqb (latestNumber b journal) 0) (slotPart journal (b .standing)) []
 
 -- the next move to redo: 1 2 13
 unfoldable pub nextNumber : Board → List ℕ → ℕ
-nextNumber b journal = first (lentTests b journal ((leb (b .made) (b .standing) ⇒ 13) ∷ []))
+nextNumber b journal = first (lentTests (eqb (length journal) journalBytes) b ((leb (b .made) (b .standing) ⇒ 13) ∷ []))
 
 unfoldable pub nextPart : Board → List ℕ → List ℕ
 nextPart b journal = pick (eqb (nextNumber b journal) 0) (slotPart journal (b .standing + 1)) []

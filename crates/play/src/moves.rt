@@ -1,10 +1,19 @@
 // The four moves: what each one does to the board, what it displaces, and how it is recorded.
+// A call works on the board of its answer in place, digits and notes one after the other: over both at once, or by value,
+// it takes 13 to 24 ns longer (docs/DECISIONS.md, 29).
 use crate::numbers::call_number;
+use crate::numbers::move_number;
 use board::Answer;
 use board::Board;
+use board::value::lent_number;
 use journal::Counts;
+use journal::ERASE;
+use journal::JOURNAL_BYTES;
 use journal::Move;
+use journal::PLACE;
+use journal::STRIKE_MARK;
 use journal::Slot;
+use journal::WRITE_MARK;
 use journal::notes::holders;
 use journal::notes::strike_all_in;
 use journal::notes::strike_in;
@@ -18,18 +27,14 @@ use puzzle::index_of;
 use puzzle::settled;
 use sudoku::cell_of;
 use sudoku::peers;
+ghost use Prim.Native.Nat.{ℕ, _*_};
 ghost use mathlib.Core.Path.{_≡_};
-ghost use mathlib.Core.Bool.{false};
-ghost use mathlib.Core.List.{[]};
-ghost use Prim.Native.Nat.{_*_};
+ghost use mathlib.Core.List.{List};
 ghost use Rattle.sudoku.specs.Grid.{put, peersOf};
-ghost use Rattle.journal.specs.Limits.{slotBytes};
-ghost use Rattle.journal.specs.Bytes.{laid};
 ghost use Rattle.journal.specs.State.{putDigit, strikeAll, perform as performOf};
-ghost use Rattle.journal.specs.Slots.{slotFor, bytesOf};
-ghost use Rattle.board.specs.Board.{stateOf};
+ghost use Rattle.journal.specs.Slots.{slotFor, plainSlot};
 ghost use Rattle.play.specs.Parts.{parts};
-ghost use Rattle.play.specs.Play.{recordMove, playOf, placeOf, eraseOf, writeMarkOf, strikeMarkOf};
+ghost use Rattle.play.specs.Play.{playOf, placeOf, eraseOf, writeMarkOf, strikeMarkOf};
 
 // A digit put at a cell, in place; where the grid has no such cell the digits stay as they are.
 fn set_digit(digits: &mut [u8; 81], cell: usize, digit: u8)
@@ -45,7 +50,7 @@ fn set_digit(digits: &mut [u8; 81], cell: usize, digit: u8)
 
 // A digit put into a cell, in place, which settles the status that is answered; 0 empties the cell, which settles nothing.
 pub fn put_in(digits: &mut [u8; 81], solved: u8, cell: usize, digit: u8) -> u8
-    ensures { λ r. ⌜ (r ≡ putDigit (parts [] (now (digits .entry)) [] solved) cell digit .solved) × (now (digits .exit) ≡ putDigit (parts [] (now (digits .entry)) [] solved) cell digit .digits) ⌝ }
+    ensures { λ r. ⌜ ((given notes : List ℕ) → (r ≡ putDigit (parts given (now (digits .entry)) notes solved) cell digit .solved) × (now (digits .exit) ≡ putDigit (parts given (now (digits .entry)) notes solved) cell digit .digits)) ⌝ }
 {
     set_digit(digits, cell, digit);
     if digit == 0 {
@@ -56,7 +61,7 @@ pub fn put_in(digits: &mut [u8; 81], solved: u8, cell: usize, digit: u8) -> u8
 
 // What a move does to the digits, in place; the status afterwards is answered.
 pub fn perform_digit(digits: &mut [u8; 81], solved: u8, m: Move) -> u8
-    ensures { λ r. ⌜ (r ≡ performOf (parts [] (now (digits .entry)) [] solved) m .solved) × (now (digits .exit) ≡ performOf (parts [] (now (digits .entry)) [] solved) m .digits) ⌝ }
+    ensures { λ r. ⌜ ((given notes : List ℕ) → (r ≡ performOf (parts given (now (digits .entry)) notes solved) m .solved) × (now (digits .exit) ≡ performOf (parts given (now (digits .entry)) notes solved) m .digits)) ⌝ }
 {
     match m {
         Move::Place { row, column, digit } => put_in(digits, solved, cell_of(row, column), digit),
@@ -83,7 +88,7 @@ fn strike_peers(notes: &mut [u16; 81], cell: usize, digit: u8)
 
 // What a move does to the kept notes, in place.
 pub fn perform_notes(notes: &mut [u16; 81], m: Move)
-    ensures { λ _. ⌜ now (notes .exit) ≡ performOf (parts [] [] (now (notes .entry)) 0) m .notes ⌝ }
+    ensures { λ _. ⌜ ((given digits : List ℕ) (solved : ℕ) → now (notes .exit) ≡ performOf (parts given digits (now (notes .entry)) solved) m .notes) ⌝ }
 {
     match m {
         Move::Place { row, column, digit } => strike_peers(notes, cell_of(row, column), digit),
@@ -93,87 +98,73 @@ pub fn perform_notes(notes: &mut [u16; 81], m: Move)
     }
 }
 
+// The slot of a move that strikes no mark.
+fn plain_slot(kind: u8, row: u8, column: u8, digit: u8, before: u8) -> Slot
+    ensures { λ r. ⌜ r ≡ plainSlot kind row column digit before ⌝ }
+{
+    Slot {
+        kind: kind,
+        row: row,
+        column: column,
+        digit: digit,
+        before: before,
+        struck: 0,
+    }
+}
+
 // The slot of a move with what it displaces: the digit before, and the peers that lose the mark.
 pub fn slot_of<'a>(digits: &'a [u8; 81], notes: &'a [u16; 81], m: Move) -> Slot
-    ensures { λ r. ⌜ r ≡ slotFor (parts [] (now (digits .entry)) (now (notes .entry)) 0) m ⌝ }
+    ensures { λ r. ⌜ ((given : List ℕ) (solved : ℕ) → r ≡ slotFor (parts given (now (digits .entry)) (now (notes .entry)) solved) m) ⌝ }
 {
     match m {
         Move::Place { row, column, digit } => {
             let cell = cell_of(row, column);
-            Slot {
-                kind: 2,
-                row: row,
-                column: column,
-                digit: digit,
-                before: digit_at(digits, cell),
-                struck: holders(notes, digit, peers(cell)),
-            }
+            let mut slot = plain_slot(PLACE, row, column, digit, digit_at(digits, cell));
+            slot.struck = holders(notes, digit, peers(cell));
+            slot
         }
         Move::Erase { row, column } => {
-            let cell = cell_of(row, column);
-            Slot {
-                kind: 3,
-                row: row,
-                column: column,
-                digit: 0,
-                before: digit_at(digits, cell),
-                struck: 0,
-            }
+            let before = digit_at(digits, cell_of(row, column));
+            plain_slot(ERASE, row, column, 0, before)
         }
-        Move::WriteMark { row, column, digit } => Slot {
-            kind: 4,
-            row: row,
-            column: column,
-            digit: digit,
-            before: 0,
-            struck: 0,
-        },
-        Move::StrikeMark { row, column, digit } => Slot {
-            kind: 5,
-            row: row,
-            column: column,
-            digit: digit,
-            before: 0,
-            struck: 0,
-        },
+        Move::WriteMark { row, column, digit } => plain_slot(WRITE_MARK, row, column, digit, 0),
+        Move::StrikeMark { row, column, digit } => plain_slot(STRIKE_MARK, row, column, digit, 0),
     }
-}
-
-// A move performed and recorded: its one slot is written behind the standing ones. A journal that ends before it stays as it is.
-pub fn record_move(board: Board, journal: &mut [u8], m: Move) -> Board
-    ensures { λ r. ⌜ (r ≡ recordMove board (now (journal .entry)) m .answer .board) × (now (journal .exit) ≡ laid (now (journal .entry)) (slotBytes * board .standing) (bytesOf (slotFor (stateOf board) m))) ⌝ }
-{
-    let mut next = board;
-    let slot = slot_of(&next.digits, &next.notes, m);
-    write_slot(journal, board.standing, slot);
-    let counts = after_record(Counts {
-        made: board.made,
-        standing: board.standing,
-    });
-    let solved = perform_digit(&mut next.digits, board.solved, m);
-    perform_notes(&mut next.notes, m);
-    next.solved = solved;
-    next.made = counts.made;
-    next.standing = counts.standing;
-    next
 }
 
 // A call that makes a move. Refused by the numbers of the move, and by 1 2 15.
 pub fn play(board: Board, journal: &mut [u8], m: Move) -> Answer
     ensures { λ r. ⌜ (r ≡ playOf board (now (journal .entry)) m .answer) × (now (journal .exit) ≡ playOf board (now (journal .entry)) m .journal) ⌝ }
 {
-    let n = call_number(board, journal.len(), m);
-    if n != 0 {
-        return Answer {
-            refusal: refusal(n, 0, 0),
-            board: board,
-        };
-    }
-    let next = record_move(board, journal, m);
-    Answer {
+    let mut answer = Answer {
         refusal: accepted(),
-        board: next,
+        board: board,
+    };
+    let lent = lent_number(board, journal.len() == JOURNAL_BYTES);
+    let own = move_number(
+        &answer.board.digits,
+        &answer.board.given,
+        &answer.board.notes,
+        board.solved,
+        m,
+    );
+    let n = call_number(lent, own, board.standing);
+    if n != 0 {
+        answer.refusal = refusal(n, 0, 0);
+        return answer;
     }
+    let slot = slot_of(&answer.board.digits, &answer.board.notes, m);
+    write_slot(journal, board.standing, slot);
+    let counts = after_record(Counts {
+        made: board.made,
+        standing: board.standing,
+    });
+    let solved = perform_digit(&mut answer.board.digits, board.solved, m);
+    perform_notes(&mut answer.board.notes, m);
+    answer.board.solved = solved;
+    answer.board.made = counts.made;
+    answer.board.standing = counts.standing;
+    answer
 }
 
 // Puts a digit into a cell. Refused by 1 2 3 4 5 8 9 15.

@@ -1,8 +1,5 @@
-// Why a move is refused: the numbers 1 to 11 and 15, each found by its own test, in their order. 0 where nothing is refused.
-use board::Board;
+// Why a move is refused: the numbers 3 to 11, each found by its own test, in their order, and the number of the whole call. 0 where nothing is refused.
 use board::cell::holds_players_digit;
-use board::value::is_value;
-use journal::JOURNAL_BYTES;
 use journal::MAX_MOVES;
 use journal::Move;
 use journal::notes::note_at;
@@ -12,21 +9,20 @@ use puzzle::holds_digit;
 use sudoku::cell_of;
 use sudoku::in_range;
 use sudoku::on_grid;
+ghost use Prim.Native.Nat.{ℕ};
 ghost use mathlib.Core.Path.{_≡_};
-ghost use mathlib.Core.Bool.{false, not};
-ghost use mathlib.Core.List.{[], _∷_, _++_};
-ghost use Prim.Native.Nat.{_≤_};
+ghost use mathlib.Core.Bool.{not};
+ghost use mathlib.Core.List.{List, [], _∷_};
 ghost use lib.Dec.{eqb};
-ghost use Rattle.puzzle.specs.Givens.{isOn};
-ghost use Rattle.sudoku.specs.Tests.{_⇒_, first};
-ghost use Rattle.sudoku.specs.Grid.{inRange, onGrid};
+ghost use Rattle.puzzle.specs.Givens.{isOn, isSet};
+ghost use Rattle.puzzle.specs.Puzzle.{holdsDigit};
+ghost use Rattle.sudoku.specs.Tests.{_⇒_, first, both};
+ghost use Rattle.sudoku.specs.Grid.{inRange, onGrid, at};
 ghost use Rattle.note.specs.Note.{contains};
 ghost use Rattle.journal.specs.declared.Move.the-variants.{Place, Erase, WriteMark, StrikeMark};
 ghost use Rattle.journal.specs.Limits.{maxMoves};
-ghost use Rattle.journal.specs.State.{isGiven, digitAt, noteAt, holdsPlayersDigit, acceptsMarks};
-ghost use Rattle.board.specs.Board.{whole, stateOf};
-ghost use Rattle.play.specs.Parts.{parts};
-ghost use Rattle.play.specs.Play.{lentNumber, lentBy, moveTests};
+ghost use Rattle.play.specs.Parts.{parts, orNumber};
+ghost use Rattle.play.specs.Play.{moveTests};
 
 // 3 and 4, which every move tests first.
 fn cell_number(solved: u8, row: u8, column: u8) -> u8
@@ -43,7 +39,7 @@ fn cell_number(solved: u8, row: u8, column: u8) -> u8
 
 // Of a digit to place at a cell: 5 8 9.
 fn digit_number<'a>(digits: &'a [u8; 81], given: &'a [u8; 81], cell: usize, digit: u8) -> u8
-    ensures { λ r. ⌜ r ≡ first ((isGiven (parts (now (given .entry)) (now (digits .entry)) [] 0) cell ⇒ 5) ∷ (not (inRange digit) ⇒ 8) ∷ (eqb (digitAt (parts (now (given .entry)) (now (digits .entry)) [] 0) cell) digit ⇒ 9) ∷ []) ⌝ }
+    ensures { λ r. ⌜ r ≡ first ((isSet (now (given .entry)) cell ⇒ 5) ∷ (not (inRange digit) ⇒ 8) ∷ (eqb (at (now (digits .entry)) cell) digit ⇒ 9) ∷ []) ⌝ }
 {
     if is_given(given, cell) {
         return 5;
@@ -59,7 +55,7 @@ fn digit_number<'a>(digits: &'a [u8; 81], given: &'a [u8; 81], cell: usize, digi
 
 // Of a mark to write at a cell: 7 8 10.
 fn mark_number<'a>(digits: &'a [u8; 81], notes: &'a [u16; 81], cell: usize, mark: u8) -> u8
-    ensures { λ r. ⌜ r ≡ first ((not (acceptsMarks (parts [] (now (digits .entry)) (now (notes .entry)) 0) cell) ⇒ 7) ∷ (not (inRange mark) ⇒ 8) ∷ (contains (noteAt (parts [] (now (digits .entry)) (now (notes .entry)) 0) cell) mark ⇒ 10) ∷ []) ⌝ }
+    ensures { λ r. ⌜ r ≡ first ((not (not (holdsDigit (now (digits .entry)) cell)) ⇒ 7) ∷ (not (inRange mark) ⇒ 8) ∷ (contains (at (now (notes .entry)) cell) mark ⇒ 10) ∷ []) ⌝ }
 {
     if holds_digit(digits, cell) {
         return 7;
@@ -75,7 +71,7 @@ fn mark_number<'a>(digits: &'a [u8; 81], notes: &'a [u16; 81], cell: usize, mark
 
 // Of a mark to strike at a cell: 7 11.
 fn struck_number<'a>(digits: &'a [u8; 81], notes: &'a [u16; 81], cell: usize, mark: u8) -> u8
-    ensures { λ r. ⌜ r ≡ first ((not (acceptsMarks (parts [] (now (digits .entry)) (now (notes .entry)) 0) cell) ⇒ 7) ∷ (not (contains (noteAt (parts [] (now (digits .entry)) (now (notes .entry)) 0) cell) mark) ⇒ 11) ∷ []) ⌝ }
+    ensures { λ r. ⌜ r ≡ first ((not (not (holdsDigit (now (digits .entry)) cell)) ⇒ 7) ∷ (not (contains (at (now (notes .entry)) cell) mark) ⇒ 11) ∷ []) ⌝ }
 {
     if holds_digit(digits, cell) {
         return 7;
@@ -88,7 +84,7 @@ fn struck_number<'a>(digits: &'a [u8; 81], notes: &'a [u16; 81], cell: usize, ma
 
 // Of a digit to erase at a cell: 6.
 fn held_number<'a>(digits: &'a [u8; 81], given: &'a [u8; 81], cell: usize) -> u8
-    ensures { λ r. ⌜ r ≡ first ((not (holdsPlayersDigit (parts (now (given .entry)) (now (digits .entry)) [] 0) cell) ⇒ 6) ∷ []) ⌝ }
+    ensures { λ r. ⌜ r ≡ first ((not (both (holdsDigit (now (digits .entry)) cell) (not (isSet (now (given .entry)) cell))) ⇒ 6) ∷ []) ⌝ }
 {
     if !holds_players_digit(digits, given, cell) {
         return 6;
@@ -105,7 +101,7 @@ fn place_number<'a>(
     column: u8,
     digit: u8,
 ) -> u8
-    ensures { λ r. ⌜ r ≡ first (moveTests (parts (now (given .entry)) (now (digits .entry)) [] solved) (Place row column digit)) ⌝ }
+    ensures { λ r. ⌜ ((notes : List ℕ) → r ≡ first (moveTests (parts (now (given .entry)) (now (digits .entry)) notes solved) (Place row column digit))) ⌝ }
 {
     let n = cell_number(solved, row, column);
     if n != 0 {
@@ -122,7 +118,7 @@ fn erase_number<'a>(
     row: u8,
     column: u8,
 ) -> u8
-    ensures { λ r. ⌜ r ≡ first (moveTests (parts (now (given .entry)) (now (digits .entry)) [] solved) (Erase row column)) ⌝ }
+    ensures { λ r. ⌜ ((notes : List ℕ) → r ≡ first (moveTests (parts (now (given .entry)) (now (digits .entry)) notes solved) (Erase row column))) ⌝ }
 {
     let n = cell_number(solved, row, column);
     if n != 0 {
@@ -140,7 +136,7 @@ fn write_mark_number<'a>(
     column: u8,
     digit: u8,
 ) -> u8
-    ensures { λ r. ⌜ r ≡ first (moveTests (parts [] (now (digits .entry)) (now (notes .entry)) solved) (WriteMark row column digit)) ⌝ }
+    ensures { λ r. ⌜ ((given : List ℕ) → r ≡ first (moveTests (parts given (now (digits .entry)) (now (notes .entry)) solved) (WriteMark row column digit))) ⌝ }
 {
     let n = cell_number(solved, row, column);
     if n != 0 {
@@ -158,7 +154,7 @@ fn strike_mark_number<'a>(
     column: u8,
     digit: u8,
 ) -> u8
-    ensures { λ r. ⌜ r ≡ first (moveTests (parts [] (now (digits .entry)) (now (notes .entry)) solved) (StrikeMark row column digit)) ⌝ }
+    ensures { λ r. ⌜ ((given : List ℕ) → r ≡ first (moveTests (parts given (now (digits .entry)) (now (notes .entry)) solved) (StrikeMark row column digit))) ⌝ }
 {
     let n = cell_number(solved, row, column);
     if n != 0 {
@@ -168,7 +164,7 @@ fn strike_mark_number<'a>(
 }
 
 // 3 to 11, asked of a board's parts: why a move is refused, 0 where it is not.
-pub fn number_of_move<'a>(
+pub fn move_number<'a>(
     digits: &'a [u8; 81],
     given: &'a [u8; 81],
     notes: &'a [u16; 81],
@@ -206,107 +202,18 @@ pub fn number_of_move<'a>(
     }
 }
 
-// 1 and 2, asked of a board's parts. That no other number comes spares callers a fact.
-pub fn number_of_lent<'a>(
-    digits: &'a [u8; 81],
-    given: &'a [u8; 81],
-    notes: &'a [u16; 81],
-    solution: &'a [u8; 81],
-    solved: u8,
-    made: usize,
-    standing: usize,
-    checks: usize,
-    length: usize,
-) -> u8
-    ensures { λ r. ⌜ (r ≡ lentNumber (whole (now (digits .entry)) (now (given .entry)) (now (notes .entry)) (now (solution .entry)) solved made standing checks) length) × (r ≤ 2) ⌝ }
+// The number of a call that makes a move: 1 and 2, those of the move, 15.
+pub fn call_number(lent: u8, own: u8, standing: usize) -> u8
+    ensures { λ r. ⌜ r ≡ orNumber lent (orNumber own (first ((eqb standing maxMoves ⇒ 15) ∷ []))) ⌝ }
 {
-    if length != JOURNAL_BYTES {
-        return 1;
-    }
-    if !is_value(digits, given, notes, solution, solved, made, standing, checks) {
-        return 2;
-    }
-    0
-}
-
-// 1 and 2, which every call with a board and a lent journal tests first.
-pub fn lent_number(board: Board, length: usize) -> u8
-    ensures { λ r. ⌜ (r ≡ lentNumber board length) × (r ≤ 2) ⌝ }
-{
-    let solved = board.solved;
-    let made = board.made;
-    let standing = board.standing;
-    let checks = board.checks;
-    number_of_lent(
-        &board.digits,
-        &board.given,
-        &board.notes,
-        &board.solution,
-        solved,
-        made,
-        standing,
-        checks,
-        length,
-    )
-}
-
-// 1, 2, 3 to 11, 15, asked of a board's parts.
-pub fn number_of_call<'a>(
-    digits: &'a [u8; 81],
-    given: &'a [u8; 81],
-    notes: &'a [u16; 81],
-    solution: &'a [u8; 81],
-    solved: u8,
-    made: usize,
-    standing: usize,
-    checks: usize,
-    length: usize,
-    m: Move,
-) -> u8
-    ensures { λ r. ⌜ r ≡ first (lentBy (whole (now (digits .entry)) (now (given .entry)) (now (notes .entry)) (now (solution .entry)) solved made standing checks) length (moveTests (parts (now (given .entry)) (now (digits .entry)) (now (notes .entry)) solved) m ++ ((eqb standing maxMoves ⇒ 15) ∷ []))) ⌝ }
-{
-    let lent = number_of_lent(
-        digits,
-        given,
-        notes,
-        solution,
-        solved,
-        made,
-        standing,
-        checks,
-        length,
-    );
     if lent != 0 {
         return lent;
     }
-    let n = number_of_move(digits, given, notes, solved, m);
-    if n != 0 {
-        return n;
+    if own != 0 {
+        return own;
     }
     if standing == MAX_MOVES {
         return 15;
     }
     0
-}
-
-// The same of a board.
-pub fn call_number(board: Board, length: usize, m: Move) -> u8
-    ensures { λ r. ⌜ r ≡ first (lentBy board length (moveTests (stateOf board) m ++ ((eqb (board .standing) maxMoves ⇒ 15) ∷ []))) ⌝ }
-{
-    let solved = board.solved;
-    let made = board.made;
-    let standing = board.standing;
-    let checks = board.checks;
-    number_of_call(
-        &board.digits,
-        &board.given,
-        &board.notes,
-        &board.solution,
-        solved,
-        made,
-        standing,
-        checks,
-        length,
-        m,
-    )
 }

@@ -1,19 +1,22 @@
 // The latest standing move and the next to redo, shown as the part of the lent journal that holds it; an empty part after a refusal.
 // A solved board is no obstacle.
-use crate::numbers::lent_number;
 use board::Board;
+use board::value::lent_number;
+use journal::JOURNAL_BYTES;
 use journal::SLOT_BYTES;
 ghost use mathlib.Core.Path.{_≡_};
 ghost use mathlib.Core.List.{[], _∷_};
 ghost use lib.Dec.{leb, eqb};
 ghost use Rattle.sudoku.specs.Tests.{_⇒_, first};
-ghost use Rattle.play.specs.Play.{lentBy, latestNumber, latestPart, nextNumber, nextPart};
+ghost use Rattle.journal.specs.Limits.{journalBytes};
+ghost use Rattle.board.specs.Board.{lentTests};
+ghost use Rattle.play.specs.Play.{latestNumber, latestPart, nextNumber, nextPart};
 
 // 1 2 12.
 fn latest_number(board: Board, length: usize) -> u8
-    ensures { λ r. ⌜ r ≡ first (lentBy board length ((eqb (board .standing) 0 ⇒ 12) ∷ [])) ⌝ }
+    ensures { λ r. ⌜ r ≡ first (lentTests (eqb length journalBytes) board ((eqb (board .standing) 0 ⇒ 12) ∷ [])) ⌝ }
 {
-    let lent = lent_number(board, length);
+    let lent = lent_number(board, length == JOURNAL_BYTES);
     if lent != 0 {
         return lent;
     }
@@ -39,9 +42,9 @@ pub fn latest<'a>(board: Board, journal: &'a [u8], number: &mut u8) -> &'a [u8]
 
 // 1 2 13.
 fn next_number(board: Board, length: usize) -> u8
-    ensures { λ r. ⌜ r ≡ first (lentBy board length ((leb (board .made) (board .standing) ⇒ 13) ∷ [])) ⌝ }
+    ensures { λ r. ⌜ r ≡ first (lentTests (eqb length journalBytes) board ((leb (board .made) (board .standing) ⇒ 13) ∷ [])) ⌝ }
 {
-    let lent = lent_number(board, length);
+    let lent = lent_number(board, length == JOURNAL_BYTES);
     if lent != 0 {
         return lent;
     }

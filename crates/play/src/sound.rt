@@ -6,12 +6,11 @@ use puzzle::answer::accepted;
 use puzzle::answer::refusal;
 ghost use mathlib.Core.Path.{_≡_};
 ghost use Rattle.puzzle.specs.Refusals.{firstRefused};
-ghost use Rattle.journal.specs.State.{givensOnly};
 ghost use Rattle.play.specs.Play.{unsoundSlot};
 
 // 14 of slot n, its number as the place.
 fn unsound_slot(given: &[u8; 81], journal: &[u8], n: usize) -> Refusal
-    ensures { λ r. ⌜ r ≡ unsoundSlot (givensOnly (now (given .entry))) (now (journal .entry)) n ⌝ }
+    ensures { λ r. ⌜ r ≡ unsoundSlot (now (given .entry)) (now (journal .entry)) n ⌝ }
 {
     if !is_sound(given, slot_at(journal, n)) {
         return refusal(14, n, 0);
@@ -21,7 +20,7 @@ fn unsound_slot(given: &[u8; 81], journal: &[u8], n: usize) -> Refusal
 
 // 14 of the first of the slots 1 to made that is unsound.
 pub fn first_unsound(given: &[u8; 81], journal: &[u8], made: usize) -> Refusal
-    ensures { λ r. ⌜ r ≡ firstRefused (unsoundSlot (givensOnly (now (given .entry))) (now (journal .entry))) made 1 ⌝ }
+    ensures { λ r. ⌜ r ≡ firstRefused (unsoundSlot (now (given .entry)) (now (journal .entry))) made 1 ⌝ }
 {
     let mut i: usize = 0;
     while i < made {

@@ -5,12 +5,12 @@ use Prim.Native.Nat.{ℕ}
 use mathlib.Core.Bool.{Bool, false, not}
 use mathlib.Core.List.{[], _∷_}
 use lib.Dec.{ltb, eqb}
-use Rattle.puzzle.specs.Givens.{isOn}
+use Rattle.puzzle.specs.Givens.{isOn, isSet}
 use Rattle.sudoku.specs.Tests.{_⇒_, first, pick, both}
 use Rattle.sudoku.specs.Grid.{inRange, onGrid, cellOf}
 use Rattle.puzzle.specs.Refusals.{refusal, accepted}
 use Rattle.puzzle.specs.Puzzle.{conflicts, isFull, isConsistent, digitsLeft}
-use Rattle.journal.specs.State.{State, isGiven, digitAt, noteAt, holdsPlayersDigit, acceptsMarks}
+use Rattle.journal.specs.State.{State, digitAt, noteAt, holdsPlayersDigit, acceptsMarks}
 use Rattle.board.specs.declared.Board.{Board}
 use Rattle.questions.specs.declared.CellAnswer.{CellAnswer}
 use Rattle.questions.specs.declared.YesNo.{YesNo}
@@ -35,7 +35,7 @@ cellAnswer s cell =
     record {
       refusal = accepted;
       digit = digitAt s cell;
-      given = isGiven s cell;
+      given = isSet (s .given) cell;
       conflicting = conflicts (s .digits) cell;
       note = noteAt s cell;
       shown = eqb (digitAt s cell) 0;

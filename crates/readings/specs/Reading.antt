@@ -6,13 +6,14 @@ use mathlib.Core.Bool.{Bool, false, not}
 use mathlib.Core.List.{List}
 use lib.Dec.{leb, ltb, eqb}
 use lib.ListN.{length, replicate}
+use Rattle.puzzle.specs.Givens.{isSet}
 use Rattle.sudoku.specs.Tests.{pick, both, run, listed}
 use Rattle.sudoku.specs.Grid.{at}
 use Rattle.puzzle.specs.declared.Refusal.{Refusal}
 use Rattle.puzzle.specs.Refusals.{refusal, accepted, isAccepted, refusedIf, orElse, firstRefused}
 use Rattle.journal.specs.Limits.{journalBytes}
 use Rattle.journal.specs.declared.Slot.{Slot}
-use Rattle.journal.specs.State.{State, isGiven, performAgain}
+use Rattle.journal.specs.State.{State, performAgain}
 use Rattle.journal.specs.Slots.{slotAt, moveOf}
 use Rattle.board.specs.declared.Board.{Board}
 use Rattle.board.specs.Board.{stateOf, isBoard}
@@ -24,7 +25,7 @@ unfoldable pub openingOf : Board → State
 openingOf b =
     record {
       given = b .given;
-      digits = listed (λ cell. pick (isGiven (stateOf b) cell) (at (b .digits) cell) 0) 81 1;
+      digits = listed (λ cell. pick (isSet (b .given) cell) (at (b .digits) cell) 0) 81 1;
       notes = replicate 81 0;
       solved = 0;
     }
@@ -44,7 +45,7 @@ unfoldable pub readingRefusal : Board → List ℕ → ℕ → Refusal
 readingRefusal b journal k =
     orElse (refusedIf (not (eqb (length journal) journalBytes)) (refusal 1 0 0))
     (orElse (refusedIf (not (isBoard b)) (refusal 2 0 0))
-    (orElse (firstRefused (unsoundSlot (stateOf b) journal) (b .made) 1)
+    (orElse (firstRefused (unsoundSlot (b .given) journal) (b .made) 1)
     (refusedIf (not (both (leb 1 k) (leb k (b .made)))) (refusal 35 0 0))))
 
 -- the reading of move k: undone when k is above standing

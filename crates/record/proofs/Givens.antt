@@ -16,7 +16,6 @@ use Rattle.sudoku.proofs.Each.{Each}
 use Rattle.puzzle.specs.declared.Given.{Given}
 use Rattle.puzzle.specs.Givens.{isSet, given, digitsOf, givenCells}
 use Rattle.puzzle.proofs.Givens.{cellIn, OnGrid, Rising, marked, digitFor, given-at, digit-at, rising-unmarked, rising-on, rising-rest, marked-here, marked-beyond, digit-here, digit-beyond, given-count}
-use Rattle.journal.specs.State.{isGiven}
 use Rattle.board.specs.declared.Board.{Board}
 use Rattle.board.specs.Board.{stateOf}
 use Rattle.record.specs.Write.{givensFrom, givensOf}
@@ -32,7 +31,7 @@ keep-false t x l p = ap (λ (s : Bool). keep s x l) p
 
 -- what a walk of the cells beyond c finds on a board: marks and digits as the givens have them
 record Found (b : Board) (c : ℕ) (gs : List Given) : Type 0 where
-  marks : (cell : ℕ) → c < cell → cell ≤ 81 → isGiven (stateOf b) cell ≡ marked gs cell
+  marks : (cell : ℕ) → c < cell → cell ≤ 81 → isSet (b .given) cell ≡ marked gs cell
   digits : (cell : ℕ) → c < cell → cell ≤ 81 → marked gs cell ≡ true → at (b .digits) cell ≡ digitFor gs cell
 
 -- one cell on: the same givens, or those after the first
@@ -91,8 +90,8 @@ count-not f (suc n) i = omega (arith, count-not f n (suc i), one-of (f i))
 
 module _ (gs : List Given) (ps : Each OnGrid gs) (r : Rising 0 gs) (b : Board) (same : b .given ≡ givenCells gs) where
   -- a cell of the board is a given exactly where a given stands
-  pub is-given : (cell : ℕ) → isCell cell ≡ true → isGiven (stateOf b) cell ≡ marked gs cell
-  unfolding isGiven stateOf
+  pub is-given : (cell : ℕ) → isCell cell ≡ true → isSet (b .given) cell ≡ marked gs cell
+  unfolding stateOf
   is-given cell q = ap (λ (l : List ℕ). isSet l cell) same ∙ given-at gs cell ps q
 
   -- the board has the givens that it was opened with
@@ -109,12 +108,12 @@ module _ (gs : List Given) (ps : Each OnGrid gs) (r : Rising 0 gs) (b : Board) (
 
   -- how many cells were to play
   pub to-play : toPlay b + length gs ≡ 81
-  unfolding toPlay isGiven stateOf
+  unfolding toPlay stateOf
   to-play =
       omega (
         arith,
-        count-not (λ cell. isGiven (stateOf b) cell) 81 1,
-        count-same (λ cell. isGiven (stateOf b) cell) (isSet (givenCells gs)) 81 1
+        count-not (λ cell. isSet (b .given) cell) 81 1,
+        count-same (λ cell. isSet (b .given) cell) (isSet (givenCells gs)) 81 1
             (λ k l u. ap (λ (l : List ℕ). isSet l k) same),
         given-count gs ps r,
       )

@@ -8,6 +8,7 @@ use native.Mathlib.Nat.{zero-add}
 use native.Mathlib.Omega.{arith}
 use borrow.Author.Tests.{le-leb}
 use lib.ListN.{length, getD, take, drop, take-append-drop}
+use Rattle.puzzle.specs.Givens.{isSet}
 use Rattle.sudoku.specs.Tests.{bit, listed}
 use Rattle.sudoku.specs.Grid.{inRange, onGrid, cellOf}
 use Rattle.sudoku.proofs.Walks.{not-is-false, both-true, bit-le}
@@ -16,7 +17,7 @@ use Rattle.puzzle.specs.Refusals.{refusal, accepted, firstRefused}
 use Rattle.puzzle.proofs.Accepted.{accepts, if-not, first-of}
 use Rattle.journal.specs.declared.Slot.{Slot}
 use Rattle.journal.specs.Limits.{maxMoves, slotBytes, checkBytes}
-use Rattle.journal.specs.State.{State, isGiven}
+use Rattle.journal.specs.State.{State}
 use Rattle.journal.specs.Slots.{slotAt, moveOf, isSound}
 use Rattle.journal.specs.StoredChecks.{Stored, storedAll, storedAt, verdictByte, isSoundCheck}
 use Rattle.journal.proofs.Memory.{slotsBytes, slot-listed, stored-listed, verdict-listed}
@@ -53,7 +54,7 @@ abbrev pub SlotFits : Slot → Type 0
 SlotFits slot = slot .struck < 2 ^ 24
 
 abbrev pub SlotSound : State → Slot → Type 0
-SlotSound s slot = isSound s slot ≡ true
+SlotSound s slot = isSound (s .given) slot ≡ true
 
 -- a journal that begins with the bytes of n slots
 module _ (journal : List ℕ) (slots : List Slot) (n : ℕ) (many : length slots ≡ n) (fit : Each SlotFits slots) (begins : take (slotBytes * n) journal ≡ slotsBytes slots) where
@@ -70,16 +71,16 @@ module _ (journal : List ℕ) (slots : List Slot) (n : ℕ) (many : length slots
       ∙ listed-map moveOf (slotAt journal) noSlot slots 1 (λ k u. slot-held k (omega arith))
 
   -- and finds none unsound where each is sound
-  pub slots-sound : (s : State) → Each (SlotSound s) slots → firstRefused (unsoundSlot s journal) n 1 ≡ accepted
+  pub slots-sound : (s : State) → Each (SlotSound s) slots → firstRefused (unsoundSlot (s .given) journal) n 1 ≡ accepted
   unfolding unsoundSlot
   slots-sound s sound =
-      first-of (unsoundSlot s journal) n 1
-      (λ k l u. accepts (unsoundSlot s journal k) (if-not _ (refusal 14 k 0) (not-is-false _ (sound-at k l u))))
+      first-of (unsoundSlot (s .given) journal) n 1
+      (λ k l u. accepts (unsoundSlot (s .given) journal k) (if-not _ (refusal 14 k 0) (not-is-false _ (sound-at k l u))))
     where
-      sound-at : (k : ℕ) → 1 ≤ k → k < 1 + n → isSound s (slotAt journal k) ≡ true
+      sound-at : (k : ℕ) → 1 ≤ k → k < 1 + n → isSound (s .given) (slotAt journal k) ≡ true
       sound-at k l u =
-          from-one (λ (i : ℕ). isSound s (slotAt journal i) ≡ true) k l
-          (ap (isSound s) (slot-held (k - 1) (omega arith)) ∙ each-at (SlotSound s) slots sound (k - 1) noSlot (omega arith))
+          from-one (λ (i : ℕ). isSound (s .given) (slotAt journal i) ≡ true) k l
+          (ap (isSound (s .given)) (slot-held (k - 1) (omega arith)) ∙ each-at (SlotSound s) slots sound (k - 1) noSlot (omega arith))
 
 -- ---- stored checks
 
@@ -96,14 +97,14 @@ askedIn c = record { standing = c .standing; row = c .row; column = c .column; d
 -- what makes a stored check sound
 pub record CheckSound (s : State) (c : Stored) : Type 0 where
   pub grid : onGrid (c .row) (c .column) ≡ true
-  pub free : isGiven s (cellOf (c .row) (c .column)) ≡ false
+  pub free : isSet (s .given) (cellOf (c .row) (c .column)) ≡ false
   pub some : 1 ≤ c .standing
   pub in-time : c .standing ≤ maxMoves
   pub range : inRange (c .digit) ≡ true
 
 -- the test of a check that was read
 check-sound : (s : State) (checks : List ℕ) (n : ℕ) (c : Stored) → storedAt checks n ≡ c → verdictByte checks n ≡ bit (c .right) → CheckSound s c
-    → isSoundCheck s checks n ≡ true
+    → isSoundCheck (s .given) checks n ≡ true
 unfolding isSoundCheck
 check-sound s checks n c e v w =
     rw (e, v)
@@ -131,16 +132,16 @@ module _ (checks : List ℕ) (stored : List Stored) (n : ℕ) (many : length sto
       ∙ listed-map askedIn (storedAt checks) noCheck stored 1 (λ k u. stored-held k (omega arith))
 
   -- and finds none unsound where each is sound
-  pub checks-sound : (s : State) → Each (CheckSound s) stored → firstRefused (unsoundCheck s checks) n 1 ≡ accepted
+  pub checks-sound : (s : State) → Each (CheckSound s) stored → firstRefused (unsoundCheck (s .given) checks) n 1 ≡ accepted
   unfolding unsoundCheck
   checks-sound s sound =
-      first-of (unsoundCheck s checks) n 1
-      (λ k l u. accepts (unsoundCheck s checks k) (if-not _ (refusal 14 k 1) (not-is-false _ (sound-at k l u))))
+      first-of (unsoundCheck (s .given) checks) n 1
+      (λ k l u. accepts (unsoundCheck (s .given) checks k) (if-not _ (refusal 14 k 1) (not-is-false _ (sound-at k l u))))
     where
-      sound-here : (i : ℕ) → i < n → isSoundCheck s checks (i + 1) ≡ true
+      sound-here : (i : ℕ) → i < n → isSoundCheck (s .given) checks (i + 1) ≡ true
       sound-here i u =
           check-sound s checks (i + 1) (getD stored i noCheck) (stored-held i u) (verdict-held i u)
           (each-at (CheckSound s) stored sound i noCheck (omega arith))
 
-      sound-at : (k : ℕ) → 1 ≤ k → k < 1 + n → isSoundCheck s checks k ≡ true
-      sound-at k l u = from-one (λ (i : ℕ). isSoundCheck s checks i ≡ true) k l (sound-here (k - 1) (omega arith))
+      sound-at : (k : ℕ) → 1 ≤ k → k < 1 + n → isSoundCheck (s .given) checks k ≡ true
+      sound-at k l u = from-one (λ (i : ℕ). isSoundCheck (s .given) checks i ≡ true) k l (sound-here (k - 1) (omega arith))

@@ -8,6 +8,7 @@ use native.Mathlib.Nat.{sub-eq-zero-of-le}
 use native.Mathlib.Numerals.{add-one}
 use native.Mathlib.Omega.{arith}
 use lib.ListN.{length, getD, length-append}
+use Rattle.puzzle.specs.Givens.{isSet}
 use Rattle.sudoku.specs.Tests.{pick, keep, bit, count, listed}
 use Rattle.sudoku.specs.Grid.{at}
 use Rattle.sudoku.proofs.Walks.{left-one}
@@ -15,7 +16,6 @@ use Rattle.sudoku.proofs.Listed.{length-listed}
 use Rattle.puzzle.specs.declared.Given.{Given as Setters}
 use Rattle.journal.specs.declared.Move.{Move}
 use Rattle.journal.specs.Bytes.{low, second, over}
-use Rattle.journal.specs.State.{givensOnly, isGiven}
 use Rattle.journal.specs.Slots.{slotAt, moveOf}
 use Rattle.journal.specs.StoredChecks.{checkStart, storedAt}
 use Rattle.journal.proofs.Memory.{low-two, second-two, over-nil, over-join, length-over}
@@ -114,7 +114,7 @@ kept true g gs = refl
 kept false g gs = refl
 
 pub givens-turn : (b : Board) (cell : ℕ) → cell < 82 → givensLeft b cell ≡ givenBytes (b .given) (b .digits) cell ++ givensLeft b (cell + 1)
-unfolding givensLeft givensFrom givenBytes isGiven stateOf givensOnly givenItem encode
+unfolding givensLeft givensFrom givenBytes stateOf givenItem encode
 givens-turn b cell h =
     ap (λ (n : ℕ). encodeAll (map givenItem (givensFrom b n cell))) (left-one 82 cell h)
     ∙ kept _ _ (givensFrom b (82 - (cell + 1)) (suc cell))
@@ -135,14 +135,14 @@ unfolding keep bit
 keep-length true x l = omega arith
 keep-length false x l = omega arith
 
-pub count-of-givens : (b : Board) (n cell : ℕ) → length (givensFrom b n cell) ≡ count (isGiven (givensOnly (b .given))) n cell
-unfolding givensFrom count isGiven stateOf givensOnly
+pub count-of-givens : (b : Board) (n cell : ℕ) → length (givensFrom b n cell) ≡ count (isSet (b .given)) n cell
+unfolding givensFrom count stateOf
 count-of-givens b zero cell = refl
-count-of-givens b (suc n) cell = keep-length _ _ (givensFrom b n (suc cell)) ∙ ap (λ (k : ℕ). bit (isGiven (givensOnly (b .given)) cell) + k) (count-of-givens b n (suc cell))
+count-of-givens b (suc n) cell = keep-length _ _ (givensFrom b n (suc cell)) ∙ ap (λ (k : ℕ). bit (isSet (b .given) cell) + k) (count-of-givens b n (suc cell))
 
 module _ (b : Board) (journal checks : List ℕ) where
   pub length-record : length (recordOf (partsOf b journal checks))
-      ≡ 4 * count (isGiven (givensOnly (b .given))) 81 1 + length (movesBytes journal (b .made)) + 3 + 6 * b .checks
+      ≡ 4 * count (isSet (b .given)) 81 1 + length (movesBytes journal (b .made)) + 3 + 6 * b .checks
   unfolding partsOf givensOf movesBytes askedOf
   length-record =
       omega (

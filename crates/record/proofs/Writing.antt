@@ -15,7 +15,6 @@ use Rattle.puzzle.proofs.Accepted.{accepts, if-not, or-else-next, or-else-first
 use Rattle.puzzle.proofs.Refusals.{refused-if, or-else-by, or-else-passed, or-else-past, walk-same}
 use Rattle.journal.specs.Limits.{maxMoves, maxChecks, journalBytes, checkMemory}
 use Rattle.journal.specs.Bytes.{over}
-use Rattle.journal.specs.State.{givensOnly, isGiven}
 use Rattle.journal.specs.Slots.{isSound}
 use Rattle.journal.specs.StoredChecks.{isSoundCheck}
 use Rattle.board.specs.declared.Board.{Board}
@@ -50,12 +49,12 @@ module _ (b : Board) (journal checks : List ℕ) where
   abbrev lent : Bool
   lent = both (eqb (length journal) journalBytes) (eqb (length checks) checkMemory)
 
-  slots-of : firstRefused (unsoundSlot (stateOf b) journal) (b .made) 1 ≡ firstRefused (unsoundSlot (givensOnly (b .given)) journal) (b .made) 1
-  unfolding unsoundSlot isSound isGiven stateOf givensOnly
+  slots-of : firstRefused (unsoundSlot (b .given) journal) (b .made) 1 ≡ firstRefused (unsoundSlot (b .given) journal) (b .made) 1
+  unfolding unsoundSlot isSound stateOf
   slots-of = walk-same _ _ (b .made) 1 (λ k l u. refl)
 
-  checks-of : firstRefused (unsoundCheck (stateOf b) checks) (b .checks) 1 ≡ firstRefused (unsoundCheck (givensOnly (b .given)) checks) (b .checks) 1
-  unfolding unsoundCheck isSoundCheck isGiven stateOf givensOnly
+  checks-of : firstRefused (unsoundCheck (b .given) checks) (b .checks) 1 ≡ firstRefused (unsoundCheck (b .given) checks) (b .checks) 1
+  unfolding unsoundCheck isSoundCheck stateOf
   checks-of = walk-same _ _ (b .checks) 1 (λ k l u. refl)
 
   pub refused-1 : lent ≡ false → refusal 1 0 0 ≡ unwritable b journal checks
@@ -65,7 +64,7 @@ module _ (b : Board) (journal checks : List ℕ) where
   module _ (one : lent ≡ true) where
     past-1 : unwritable b journal checks
         ≡ orElse (refusedIf (not (isBoard b)) (refusal 2 0 0))
-        (orElse (firstRefused (unsoundSlot (stateOf b) journal) (b .made) 1) (firstRefused (unsoundCheck (stateOf b) checks) (b .checks) 1))
+        (orElse (firstRefused (unsoundSlot (b .given) journal) (b .made) 1) (firstRefused (unsoundCheck (b .given) checks) (b .checks) 1))
     unfolding unwritable
     past-1 = or-else-past _ _ (if-not _ (refusal 1 0 0) (not-is-false lent one))
 
@@ -73,17 +72,17 @@ module _ (b : Board) (journal checks : List ℕ) where
     refused-2 t =
         sym (past-1 ∙ or-else-by _ _ (refusal 2 0 0) (refused-if _ (refusal 2 0 0) (not-is-true (isBoard b) t)) (eqb-false 2 0 refl))
 
-    module _ (two : isBoard b ≡ true) (r : Refusal) (e : r ≡ firstRefused (unsoundSlot (givensOnly (b .given)) journal) (b .made) 1) where
-      past-2 : unwritable b journal checks ≡ orElse r (firstRefused (unsoundCheck (stateOf b) checks) (b .checks) 1)
+    module _ (two : isBoard b ≡ true) (r : Refusal) (e : r ≡ firstRefused (unsoundSlot (b .given) journal) (b .made) 1) where
+      past-2 : unwritable b journal checks ≡ orElse r (firstRefused (unsoundCheck (b .given) checks) (b .checks) 1)
       past-2 =
           past-1
           ∙ or-else-past _ _ (if-not _ (refusal 2 0 0) (not-is-false (isBoard b) two))
-          ∙ ap (λ (x : Refusal). orElse x (firstRefused (unsoundCheck (stateOf b) checks) (b .checks) 1)) (slots-of ∙ sym e)
+          ∙ ap (λ (x : Refusal). orElse x (firstRefused (unsoundCheck (b .given) checks) (b .checks) 1)) (slots-of ∙ sym e)
 
       pub refused-14 : (r .number ≡ 0 → ⊥) → r ≡ unwritable b journal checks
       refused-14 n = sym (past-2 ∙ or-else-by r _ r refl n)
 
-      pub past-14 : r .number ≡ 0 → firstRefused (unsoundCheck (givensOnly (b .given)) checks) (b .checks) 1 ≡ unwritable b journal checks
+      pub past-14 : r .number ≡ 0 → firstRefused (unsoundCheck (b .given) checks) (b .checks) 1 ≡ unwritable b journal checks
       past-14 n = sym (past-2 ∙ or-else-passed r _ n ∙ checks-of)
 
 -- ---- what writing answers

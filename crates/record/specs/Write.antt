@@ -10,11 +10,11 @@ use Rattle.sudoku.specs.Grid.{at, rowOf, columnOf}
 use Rattle.puzzle.specs.declared.Given.{Given as Setters}
 use Rattle.puzzle.specs.declared.Refusal.{Refusal}
 use Rattle.puzzle.specs.Refusals.{refusal, accepted, isAccepted, refusedIf, orElse, firstRefused}
-use Rattle.puzzle.specs.Givens.{given}
+use Rattle.puzzle.specs.Givens.{given, isSet}
 use Rattle.journal.specs.declared.Move.{Move}
 use Rattle.journal.specs.Limits.{journalBytes, checkMemory}
 use Rattle.journal.specs.Bytes.{over}
-use Rattle.journal.specs.State.{State, isGiven}
+use Rattle.journal.specs.State.{State}
 use Rattle.journal.specs.Slots.{slotAt, moveOf}
 use Rattle.journal.specs.StoredChecks.{storedAt, isSoundCheck}
 use Rattle.board.specs.declared.Board.{Board}
@@ -28,7 +28,7 @@ use Rattle.record.specs.Items.{Parts, recordOf}
 unfoldable pub givensFrom : Board → ℕ → ℕ → List Setters
 givensFrom b zero cell = []
 givensFrom b (suc n) cell =
-    keep (isGiven (stateOf b) cell) (given (rowOf cell) (columnOf cell) (at (b .digits) cell)) (givensFrom b n (suc cell))
+    keep (isSet (b .given) cell) (given (rowOf cell) (columnOf cell) (at (b .digits) cell)) (givensFrom b n (suc cell))
 
 unfoldable pub givensOf : Board → List Setters
 givensOf b = givensFrom b 81 1
@@ -58,22 +58,22 @@ partsOf b journal checks =
 
 -- 14 of check n, with inner 1
 unfoldable pub unsoundCheck : State → List ℕ → ℕ → Refusal
-unsoundCheck s checks n = refusedIf (not (isSoundCheck s checks n)) (refusal 14 n 1)
+unsoundCheck (s .given) checks n = refusedIf (not (isSoundCheck (s .given) checks n)) (refusal 14 n 1)
 
 -- 1; 2; 14 for slots 1 to made, then for the stored checks
 unfoldable pub unwritable : Board → List ℕ → List ℕ → Refusal
 unwritable b journal checks =
     orElse (refusedIf (not (both (eqb (length journal) journalBytes) (eqb (length checks) checkMemory))) (refusal 1 0 0))
     (orElse (refusedIf (not (isBoard b)) (refusal 2 0 0))
-    (orElse (firstRefused (unsoundSlot (stateOf b) journal) (b .made) 1) (firstRefused (unsoundCheck (stateOf b) checks) (b .checks) 1)))
+    (orElse (firstRefused (unsoundSlot (b .given) journal) (b .made) 1) (firstRefused (unsoundCheck (b .given) checks) (b .checks) 1)))
 
 -- the same, and 34 Output shorter than the record
 unfoldable pub writeRefusal : Board → List ℕ → List ℕ → List ℕ → Refusal
 writeRefusal b journal checks output =
     orElse (refusedIf (not (both (eqb (length journal) journalBytes) (eqb (length checks) checkMemory))) (refusal 1 0 0))
     (orElse (refusedIf (not (isBoard b)) (refusal 2 0 0))
-    (orElse (firstRefused (unsoundSlot (stateOf b) journal) (b .made) 1)
-    (orElse (firstRefused (unsoundCheck (stateOf b) checks) (b .checks) 1)
+    (orElse (firstRefused (unsoundSlot (b .given) journal) (b .made) 1)
+    (orElse (firstRefused (unsoundCheck (b .given) checks) (b .checks) 1)
     (refusedIf (ltb (length output) (length (recordOf (partsOf b journal checks)))) (refusal 34 0 0)))))
 
 -- what writing answers, and the output afterwards: on success bytes beyond the record stay, after a refusal every byte

@@ -24,11 +24,11 @@ ghost use mathlib.Core.Path.{_≡_};
 ghost use mathlib.Core.List.{[], _∷_};
 ghost use Prim.Native.Nat.{_+_, _*_, _≤_};
 ghost use lib.ListN.{length};
+ghost use Rattle.puzzle.specs.Givens.{isSet};
 ghost use Rattle.sudoku.specs.Tests.{count as countOf};
 ghost use Rattle.puzzle.specs.Refusals.{firstRefused};
 ghost use Rattle.journal.specs.Limits.{maxMoves, maxChecks};
 ghost use Rattle.journal.specs.Bytes.{over};
-ghost use Rattle.journal.specs.State.{givensOnly, isGiven};
 ghost use Rattle.record.specs.declared.Item.the-variants.{Played};
 ghost use Rattle.record.specs.Items.{encode, checkItem, recordOf};
 ghost use Rattle.record.specs.Write.{partsOf, askedAt, unsoundCheck as unsoundCheckOf, unwritable as unwritableOf, writeOf};
@@ -36,7 +36,7 @@ ghost use Rattle.record.specs.Laying.{givenBytes, givensBytes, movesByte
 
 // 14 of stored check n, with inner 1.
 fn unsound_check(given: &[u8; 81], checks: &[u8], n: usize) -> Refusal
-    ensures { λ r. ⌜ r ≡ unsoundCheckOf (givensOnly (now (given .entry))) (now (checks .entry)) n ⌝ }
+    ensures { λ r. ⌜ r ≡ unsoundCheckOf (now (given .entry)) (now (checks .entry)) n ⌝ }
 {
     if is_sound_check(given, checks, n) {
         return accepted();
@@ -47,7 +47,7 @@ fn unsound_check(given: &[u8; 81], checks: &[u8], n: usize) -> Refusal
 // 14 of the stored checks.
 fn unsound_checks(given: &[u8; 81], checks: &[u8], count: usize) -> Refusal
     requires { ⌜ count ≤ maxChecks ⌝ }
-    ensures { λ r. ⌜ r ≡ firstRefused (unsoundCheckOf (givensOnly (now (given .entry))) (now (checks .entry))) count 1 ⌝ }
+    ensures { λ r. ⌜ r ≡ firstRefused (unsoundCheckOf (now (given .entry)) (now (checks .entry))) count 1 ⌝ }
 {
     let mut n: usize = 1;
     while n <= count {
@@ -82,7 +82,7 @@ fn unwritable(board: Board, journal: &[u8], checks: &[u8]) -> Refusal
 
 // How many cells hold a given.
 pub fn count_givens(given: &[u8; 81]) -> usize
-    ensures { λ r. ⌜ (r ≡ countOf (isGiven (givensOnly (now (given .entry)))) 81 1) × (r ≤ 81) ⌝ }
+    ensures { λ r. ⌜ (r ≡ countOf (isSet (now (given .entry))) 81 1) × (r ≤ 81) ⌝ }
 {
     let mut n: usize = 0;
     let mut cell: usize = 1;

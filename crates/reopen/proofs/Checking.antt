@@ -21,7 +21,6 @@ use Rattle.puzzle.proofs.Accepted.{if-not}
 use Rattle.puzzle.proofs.Refusals.{refused-if, or-else-by, or-else-passed, or-else-past}
 use Rattle.journal.specs.Limits.{checkBytes}
 use Rattle.journal.specs.Bytes.{over, laid}
-use Rattle.journal.specs.State.{givensOnly, isGiven}
 use Rattle.journal.specs.StoredChecks.{storedCheck, isRight, judge, storedBytes, storedAll}
 use Rattle.journal.proofs.Memory.{stored-length, length-stored}
 use Rattle.journal.proofs.Stores.{laid-over}
@@ -35,13 +34,13 @@ use Rattle.record.proofs.Givens.{count-not}
 
 -- ---- cells to play
 
-pub cells-to-play : (b : Board) → toPlay b + count (isGiven (givensOnly (b .given))) 81 1 ≡ 81
-unfolding toPlay isGiven stateOf givensOnly
+pub cells-to-play : (b : Board) → toPlay b + count (isSet (b .given)) 81 1 ≡ 81
+unfolding toPlay stateOf
 cells-to-play b =
     omega (
       arith,
-      count-not (λ cell. isGiven (stateOf b) cell) 81 1,
-      count-same (λ cell. isGiven (stateOf b) cell) (isGiven (givensOnly (b .given))) 81 1 (λ k l u. refl),
+      count-not (λ cell. isSet (b .given) cell) 81 1,
+      count-same (λ cell. isSet (b .given) cell) (isSet (b .given)) 81 1 (λ k l u. refl),
     )
 
 -- ---- one check
@@ -54,7 +53,7 @@ module _ (b : Board) (cells k : ℕ) (c : Asked) (n : ℕ) (e : n ≡ checkNumbe
   from32 = orElse (refusedIf (eqb (c .standing) 0) (refusal 32 k 0)) third
 
   is : checkRefusal b cells k c ≡ orElse (refusedIf (not (eqb n 0)) (refusal 31 k n)) from32
-  unfolding checkRefusal checkNumber isGiven stateOf givensOnly
+  unfolding checkRefusal checkNumber stateOf
   is = ap (λ (x : ℕ). orElse (refusedIf (not (eqb x 0)) (refusal 31 k x)) from32) (sym e)
 
   pub refused-31 : (n ≡ 0 → ⊥) → refusal 31 k n ≡ checkRefusal b cells k c
@@ -167,11 +166,11 @@ module _ (bytes : List ℕ) (start count k : ℕ) (h : count + 1 ≤ k) where
 
 module _ (b c : Board) (g : b .given ≡ c .given) (s : b .solution ≡ c .solution) where
   pub to-play-same : toPlay b ≡ toPlay c
-  unfolding toPlay isGiven stateOf
+  unfolding toPlay stateOf
   to-play-same = ap (λ (l : List ℕ). count (λ cell. not (isSet l cell)) 81 1) g
 
   check-same : (cells k : ℕ) (a : Asked) → checkRefusal b cells k a ≡ checkRefusal c cells k a
-  unfolding checkRefusal isGiven stateOf
+  unfolding checkRefusal stateOf
   check-same cells k a =
       λ j.
       orElse

@@ -6,13 +6,13 @@ use mathlib.Core.Bool.{Bool, not}
 use mathlib.Core.List.{List, [], _∷_}
 use lib.Dec.{eqb}
 use lib.ListN.{length}
-use Rattle.puzzle.specs.Givens.{isOn}
+use Rattle.puzzle.specs.Givens.{isOn, isSet}
 use Rattle.sudoku.specs.Tests.{_⇒_, first, pick, listed}
 use Rattle.sudoku.specs.Grid.{inRange, onGrid, cellOf}
 use Rattle.puzzle.specs.declared.Refusal.{Refusal}
 use Rattle.puzzle.specs.Refusals.{refusal, accepted, isAccepted}
 use Rattle.journal.specs.declared.Move.{Move}
-use Rattle.journal.specs.State.{State, givensOnly, isGiven}
+use Rattle.journal.specs.State.{State}
 use Rattle.board.specs.declared.Answer.{Answer}
 use Rattle.board.specs.declared.Board.{Board}
 use Rattle.board.specs.Board.{stateOf}
@@ -52,7 +52,7 @@ unfoldable pub checkNumber : List ℕ → Asked → ℕ
 checkNumber given c =
     first
     ((not (onGrid (c .row) (c .column)) ⇒ 3)
-    ∷ (isGiven (givensOnly given) (cellOf (c .row) (c .column)) ⇒ 5)
+    ∷ (isSet given (cellOf (c .row) (c .column)) ⇒ 5)
     ∷ (not (inRange (c .digit)) ⇒ 8)
     ∷ [])
 

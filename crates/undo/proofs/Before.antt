@@ -13,18 +13,16 @@ use Rattle.sudoku.proofs.Walks.{refused, passed}
 use Rattle.puzzle.specs.Refusals.{refusal}
 use Rattle.journal.specs.declared.Slot.{Slot}
 use Rattle.journal.specs.State.{State, standsAsLeft, standsAsFound}
-use Rattle.journal.specs.Slots.{moveOf, digitChange, slotAt, soundFor}
-use Rattle.journal.proofs.SlotLaws.{sound-for}
+use Rattle.journal.specs.Slots.{moveOf, digitChange, slotAt, isSound}
 use Rattle.board.specs.declared.Board.{Board}
 use Rattle.board.specs.declared.Answer.{Answer}
-use Rattle.board.specs.Board.{stateOf}
+use Rattle.board.specs.Board.{stateOf, lentTests}
 use Rattle.board.specs.Open.{answer}
 use Rattle.board.proofs.Numbers.{last-if}
-use Rattle.play.specs.Parts.{parts}
-use Rattle.play.specs.Play.{lentBy, lentTests, slotRefusal, canTakeBack, canRetake, undoTests, undoOf, redoTests, redoOf}
+use Rattle.play.specs.Play.{undoBefore, redoBefore, slotRefusal, canTakeBack, canRetake, undoTests, undoOf, redoTests, redoOf}
 use Rattle.play.proofs.Joined.{Numbered, join-refused, join-passed}
 use Rattle.play.proofs.Accepted.{slot-plain, slot-14, undo-refused, redo-refused}
-use Rattle.undo.specs.Halves.{struckCells, digitLeft, digitFound, marksLeft, marksFound, undoBefore, redoBefore}
+use Rattle.undo.specs.Halves.{struckCells, digitLeft, digitFound, marksLeft, marksFound}
 use Rattle.undo.proofs.Parts.{left-parts, found-parts}
 
 -- ---- the slot, asked of a state's parts, all three questions in any case
@@ -37,15 +35,15 @@ all-three true false c d h = h refl
 all-three false b c d h = refl
 
 module _ (s : State) (slot : Slot) where
-  pub take-back-parts : ((soundFor (s .given) slot && digitLeft (parts [] (s .digits) [] 0) (cellOf (slot .row) (slot .column)) (digitChange slot)) && marksLeft (s .notes) (moveOf slot) (slot .struck) (struckCells slot))
+  pub take-back-parts : ((isSound (s .given) slot && digitLeft (s .digits) (cellOf (slot .row) (slot .column)) (digitChange slot)) && marksLeft (s .notes) (moveOf slot) (slot .struck) (struckCells slot))
       ≡ canTakeBack s slot
   unfolding canTakeBack
-  take-back-parts = all-three _ _ _ _ (left-parts s slot) ∙ ap (λ (t : Bool). both t (standsAsLeft s (moveOf slot) (slot .struck))) (sym (sound-for s slot))
+  take-back-parts = all-three _ _ _ _ (left-parts s slot)
 
-  pub retake-parts : ((soundFor (s .given) slot && digitFound (parts [] (s .digits) [] 0) (cellOf (slot .row) (slot .column)) (digitChange slot)) && marksFound (s .notes) (moveOf slot) (slot .struck) (struckCells slot))
+  pub retake-parts : ((isSound (s .given) slot && digitFound (s .digits) (cellOf (slot .row) (slot .column)) (digitChange slot)) && marksFound (s .notes) (moveOf slot) (slot .struck) (struckCells slot))
       ≡ canRetake s slot
   unfolding canRetake
-  retake-parts = all-three _ _ _ _ (found-parts s slot) ∙ ap (λ (t : Bool). both t (standsAsFound s (moveOf slot) (slot .before) (slot .struck))) (sym (sound-for s slot))
+  retake-parts = all-three _ _ _ _ (found-parts s slot)
 
 -- ---- a call whose last test is 14: the tests before it gave the number n, and `unfit` says that the slot does not fit
 
@@ -72,49 +70,49 @@ module _ (before : List Test) (q : Numbered before) (unfit : Bool) (n : ℕ) (e 
 
 module _ (b : Board) (journal : List ℕ) (n : ℕ) (e : n ≡ first (undoBefore b (length journal))) where
   undo-numbered : Numbered (undoBefore b (length journal))
-  unfolding undoBefore lentBy
+  unfolding undoBefore lentTests
   undo-numbered = (omega arith, (omega arith, (omega arith, (omega arith, tt))))
 
   -- refused before the slot is asked
   pub undo-stopped : n < 14 → (n ≡ 0 → ⊥) → answer (refusal n 0 0) b ≡ undoOf b journal
-  unfolding undoTests undoBefore lentTests lentBy
+  unfolding undoTests undoBefore lentTests
   undo-stopped = stops (undoBefore b (length journal)) undo-numbered (not (canTakeBack (stateOf b) (slotAt journal (b .standing)))) n e b (b .standing) (undoOf b journal) (undo-refused b journal)
 
   -- refused by its slot
   pub undo-unfit : n ≡ 0 → not (canTakeBack (stateOf b) (slotAt journal (b .standing))) ≡ true → answer (refusal 14 (b .standing) 0) b ≡ undoOf b journal
-  unfolding undoTests undoBefore lentTests lentBy
+  unfolding undoTests undoBefore lentTests
   undo-unfit = unfits (undoBefore b (length journal)) undo-numbered (not (canTakeBack (stateOf b) (slotAt journal (b .standing)))) n e b (b .standing) (undoOf b journal) (undo-refused b journal)
 
   -- accepted
   pub undo-fit : n ≡ 0 → not (canTakeBack (stateOf b) (slotAt journal (b .standing))) ≡ false → first (undoTests b journal) ≡ 0
-  unfolding undoTests undoBefore lentTests lentBy
+  unfolding undoTests undoBefore lentTests
   undo-fit = fits (undoBefore b (length journal)) undo-numbered (not (canTakeBack (stateOf b) (slotAt journal (b .standing)))) n e
 
 -- ---- redo
 
 module _ (b : Board) (journal : List ℕ) (n : ℕ) (e : n ≡ first (redoBefore b (length journal))) where
   redo-numbered : Numbered (redoBefore b (length journal))
-  unfolding redoBefore lentBy
+  unfolding redoBefore lentTests
   redo-numbered = (omega arith, (omega arith, (omega arith, (omega arith, tt))))
 
   -- refused before the slot is asked
   pub redo-stopped : n < 14 → (n ≡ 0 → ⊥) → answer (refusal n 0 0) b ≡ redoOf b journal
-  unfolding redoTests redoBefore lentTests lentBy
+  unfolding redoTests redoBefore lentTests
   redo-stopped = stops (redoBefore b (length journal)) redo-numbered (not (canRetake (stateOf b) (slotAt journal (b .standing + 1)))) n e b (b .standing + 1) (redoOf b journal) (redo-refused b journal)
 
   -- refused by its slot
   pub redo-unfit : n ≡ 0 → not (canRetake (stateOf b) (slotAt journal (b .standing + 1))) ≡ true → answer (refusal 14 (b .standing + 1) 0) b ≡ redoOf b journal
-  unfolding redoTests redoBefore lentTests lentBy
+  unfolding redoTests redoBefore lentTests
   redo-unfit = unfits (redoBefore b (length journal)) redo-numbered (not (canRetake (stateOf b) (slotAt journal (b .standing + 1)))) n e b (b .standing + 1) (redoOf b journal) (redo-refused b journal)
 
   -- accepted
   pub redo-fit : n ≡ 0 → not (canRetake (stateOf b) (slotAt journal (b .standing + 1))) ≡ false → first (redoTests b journal) ≡ 0
-  unfolding redoTests redoBefore lentTests lentBy
+  unfolding redoTests redoBefore lentTests
   redo-fit = fits (redoBefore b (length journal)) redo-numbered (not (canRetake (stateOf b) (slotAt journal (b .standing + 1)))) n e
 
   -- where nothing refuses before the slot, a move is there after the standing ones
   pub redo-more : n ≡ 0 → b .standing < b .made
-  unfolding redoBefore lentBy
+  unfolding redoBefore lentTests
   redo-more p =
       let lent = passed _ 1 _ (passed _ 0 _ (sym e ∙ p) .1) in
       leb-false (b .made) (b .standing) (passed _ 12 _ (passed _ 3 _ (lent .1) .1) .0)

@@ -1,7 +1,7 @@
 -- A recorded move taken back and performed again by parts: the givens stay, the digits and the status come from the digits and the status, the notes from the notes.
 -- And a mask of 0, which speaks of no peer: where a slot's is 0, twenty zeros serve as well as the peers.
 -- Assumes nothing.
-use Prim.Native.Nat.{ℕ, _+_, _<_}
+use Prim.Native.Nat.{ℕ, _+_, _-_, _<_}
 use mathlib.Core.Path.{_≡_, refl, sym, ap, _∙_}
 use mathlib.Core.Bool.{Bool, true, false, not}
 use mathlib.Core.List.{List, [], _∷_}
@@ -19,8 +19,11 @@ use Rattle.journal.specs.declared.Move.{Move}
 use Rattle.journal.specs.declared.Move.the-variants.{Place, Erase, WriteMark, StrikeMark}
 use Rattle.journal.specs.declared.Slot.{Slot}
 use Rattle.journal.specs.State.{State, withNotes, putDigit, lowest, writeMasked, strikeMasked, everyMasked, perform, performAgain, takeBack, digitAt, noteAt, standsAsLeft, standsAsFound}
+use Rattle.journal.specs.declared.Counts.{Counts}
+use Rattle.journal.specs.Counts.{counts, takenBack}
+use Rattle.journal.specs.Kinds.{placeKind, eraseKind, writeKind}
 use Rattle.journal.specs.InTurn.{inTurn, lackInTurn, noneMissingInTurn}
-use Rattle.journal.specs.Slots.{moveOf, digitChange, soundPlace, isSound, isFree, soundFor}
+use Rattle.journal.specs.Slots.{moveOf, digitChange, soundPlace, isSound, isFree}
 use Rattle.journal.proofs.SlotLaws.{sound-place}
 use Rattle.journal.proofs.InTurn.{lack-peers, have-peers}
 use Rattle.play.specs.Parts.{parts}
@@ -31,6 +34,17 @@ use Rattle.undo.specs.Halves.{digitBack, digitAgain, slotToRedo, struckC
 pub next-standing : (made standing : ℕ) → standing < made → slotToRedo made standing ≡ standing + 1
 unfolding slotToRedo
 next-standing made standing h = pick-false _ _ _ (lt-leb _ _ h)
+
+-- ---- taking back keeps how many moves were made
+
+same-made : (t : Bool) (made m n : ℕ) → made ≡ pick t (counts made m) (counts made n) .made
+unfolding pick
+same-made true made m n = refl
+same-made false made m n = refl
+
+pub taken-back-made : (c : Counts) → c .made ≡ takenBack c .made
+unfolding takenBack
+taken-back-made c = same-made (eqb (c .standing) 0) (c .made) (c .standing) (c .standing - 1)
 
 -- ---- a mask of 0
 
@@ -76,13 +90,13 @@ module _ (slot : Slot) where
   strike-struck notes d = by-struck (λ mask cells. strikeMasked notes d mask cells) notes (strike-none notes d)
 
   -- and so are the two that ask in turn, where the slot is sound
-  module _ (given : List ℕ) (h : soundFor given slot ≡ true) where
+  module _ (given : List ℕ) (h : isSound given slot ≡ true) where
     sound-cell : isCell (cellOf (slot .row) (slot .column)) ≡ true
-    unfolding soundFor isSound
+    unfolding isSound isFree
     sound-cell = cell-of-is-cell _ _ (both-left _ _ (both-left _ _ h))
 
-    sound-digit : eqb (slot .kind) 2 ≡ true → inRange (slot .digit) ≡ true
-    unfolding soundFor isSound isFree soundPlace
+    sound-digit : eqb (slot .kind) placeKind ≡ true → inRange (slot .digit) ≡ true
+    unfolding isSound isFree soundPlace
     sound-digit k = both-left _ _ (sym (sound-place given slot (both-left _ _ h) (eqb-true _ _ k)) ∙ h)
 
     lack-struck : (notes : List ℕ) (d : ℕ) → lackInTurn notes d (slot .struck) (struckCells slot)
@@ -97,23 +111,6 @@ module _ (slot : Slot) where
         by-struck (λ mask cells. noneMissingInTurn notes d mask cells) true (have-none notes d)
         ∙ have-peers notes d (slot .struck) (cellOf (slot .row) (slot .column)) sound-cell r
 
--- ---- the digit alone, and the marks alone
-
-pub digit-again-parts : (s : State) (cell : ℕ) (change : DigitChange)
-    → parts (s .given) (digitAgain (parts [] (s .digits) [] (s .solved)) cell change .digits) (s .notes) (digitAgain (parts [] (s .digits) [] (s .solved)) cell change .solved)
-    ≡ digitAgain s cell change
-unfolding digitAgain putDigit
-digit-again-parts s cell (Put before after) = refl
-digit-again-parts s cell None = refl
-
-pub marks-again-parts : (s : State) (m : Move) (mask : ℕ) (cells : List ℕ)
-    → parts (s .given) (s .digits) (marksAgain (parts [] [] (s .notes) 0) m mask cells .notes) (s .solved) ≡ marksAgain s m mask cells
-unfolding marksAgain withNotes
-marks-again-parts s (Place row column digit) mask cells = refl
-marks-again-parts s (Erase row column) mask cells = refl
-marks-again-parts s (WriteMark row column digit) mask cells = refl
-marks-again-parts s (StrikeMark row column digit) mask cells = refl
-
 -- ---- the whole, by what the tests of the kind byte say: a place, an erase, a mark written
 
 -- a slot's move and its digit change by these tests
@@ -125,29 +122,29 @@ changeBy before digit p e = pick p (Put before digit) (pick e (Put before 0) Non
 
 module _ (s : State) (row column digit before mask : ℕ) (cells : List ℕ) where
   back-by : writeMasked (s .notes) digit mask cells ≡ writeMasked (s .notes) digit mask (peersOf (cellOf row column)) → (p e w : Bool)
-      → parts (s .given) (digitBack (parts [] (s .digits) [] (s .solved)) (cellOf row column) (changeBy before digit p e) .digits)
-      (marksBack (parts [] [] (s .notes) 0) (moveBy row column digit p e w) mask cells .notes)
-      (digitBack (parts [] (s .digits) [] (s .solved)) (cellOf row column) (changeBy before digit p e) .solved)
+      → parts (s .given) (digitBack s (cellOf row column) (changeBy before digit p e) .digits)
+      (marksBack s (moveBy row column digit p e w) mask cells .notes)
+      (digitBack s (cellOf row column) (changeBy before digit p e) .solved)
       ≡ takeBack s (moveBy row column digit p e w) before mask
   unfolding pick marksBack digitBack takeBack withNotes putDigit
-  back-by h true e w = ap (λ (notes : List ℕ). parts (s .given) (putDigit (parts [] (s .digits) [] (s .solved)) (cellOf row column) before .digits) notes (putDigit (parts [] (s .digits) [] (s .solved)) (cellOf row column) before .solved)) h
+  back-by h true e w = ap (λ (notes : List ℕ). parts (s .given) (putDigit s (cellOf row column) before .digits) notes (putDigit s (cellOf row column) before .solved)) h
   back-by h false true w = refl
   back-by h false false true = refl
   back-by h false false false = refl
 
   again-by : strikeMasked (s .notes) digit mask cells ≡ strikeMasked (s .notes) digit mask (peersOf (cellOf row column)) → (p e w : Bool)
-      → parts (s .given) (digitAgain (parts [] (s .digits) [] (s .solved)) (cellOf row column) (changeBy before digit p e) .digits)
-      (marksAgain (parts [] [] (s .notes) 0) (moveBy row column digit p e w) mask cells .notes)
-      (digitAgain (parts [] (s .digits) [] (s .solved)) (cellOf row column) (changeBy before digit p e) .solved)
+      → parts (s .given) (digitAgain s (cellOf row column) (changeBy before digit p e) .digits)
+      (marksAgain s (moveBy row column digit p e w) mask cells .notes)
+      (digitAgain s (cellOf row column) (changeBy before digit p e) .solved)
       ≡ performAgain s (moveBy row column digit p e w) mask
   unfolding pick marksAgain digitAgain performAgain perform withNotes putDigit
-  again-by h true e w = ap (λ (notes : List ℕ). parts (s .given) (putDigit (parts [] (s .digits) [] (s .solved)) (cellOf row column) digit .digits) notes (putDigit (parts [] (s .digits) [] (s .solved)) (cellOf row column) digit .solved)) h
+  again-by h true e w = ap (λ (notes : List ℕ). parts (s .given) (putDigit s (cellOf row column) digit .digits) notes (putDigit s (cellOf row column) digit .solved)) h
   again-by h false true w = refl
   again-by h false false true = refl
   again-by h false false false = refl
 
   left-by : (p e w : Bool) → (p ≡ true → lackInTurn (s .notes) digit mask cells ≡ everyMasked (λ peer. not (contains (noteAt s peer) digit)) mask (peersOf (cellOf row column)))
-      → both (digitLeft (parts [] (s .digits) [] 0) (cellOf row column) (changeBy before digit p e))
+      → both (digitLeft (s .digits) (cellOf row column) (changeBy before digit p e))
       (marksLeft (s .notes) (moveBy row column digit p e w) mask cells)
       ≡ standsAsLeft s (moveBy row column digit p e w) mask
   unfolding pick digitLeft marksLeft standsAsLeft digitAt noteAt both
@@ -157,7 +154,7 @@ module _ (s : State) (row column digit before mask : ℕ) (cells : List ℕ) whe
   left-by false false false h = refl
 
   found-by : (p e w : Bool) → (p ≡ true → noneMissingInTurn (s .notes) digit mask cells ≡ everyMasked (λ peer. contains (noteAt s peer) digit) mask (peersOf (cellOf row column)))
-      → both (digitFound (parts [] (s .digits) [] 0) (cellOf row column) (changeBy before digit p e))
+      → both (digitFound (s .digits) (cellOf row column) (changeBy before digit p e))
       (marksFound (s .notes) (moveBy row column digit p e w) mask cells)
       ≡ standsAsFound s (moveBy row column digit p e w) before mask
   unfolding pick digitFound marksFound standsAsFound digitAt noteAt both
@@ -168,46 +165,37 @@ module _ (s : State) (row column digit before mask : ℕ) (cells : List ℕ) whe
 
 module _ (s : State) (slot : Slot) where
   pub back-parts : parts (s .given)
-      (digitBack (parts [] (s .digits) [] (s .solved)) (cellOf (slot .row) (slot .column)) (digitChange slot) .digits)
-      (marksBack (parts [] [] (s .notes) 0) (moveOf slot) (slot .struck) (struckCells slot) .notes)
-      (digitBack (parts [] (s .digits) [] (s .solved)) (cellOf (slot .row) (slot .column)) (digitChange slot) .solved)
+      (digitBack s (cellOf (slot .row) (slot .column)) (digitChange slot) .digits)
+      (marksBack s (moveOf slot) (slot .struck) (struckCells slot) .notes)
+      (digitBack s (cellOf (slot .row) (slot .column)) (digitChange slot) .solved)
       ≡ takeBack s (moveOf slot) (slot .before) (slot .struck)
   unfolding digitChange moveOf
   back-parts =
       back-by s (slot .row) (slot .column) (slot .digit) (slot .before) (slot .struck) (struckCells slot) (write-struck slot (s .notes) (slot .digit))
-      (eqb (slot .kind) 2) (eqb (slot .kind) 3) (eqb (slot .kind) 4)
+      (eqb (slot .kind) placeKind) (eqb (slot .kind) eraseKind) (eqb (slot .kind) writeKind)
 
   pub again-parts : parts (s .given)
-      (digitAgain (parts [] (s .digits) [] (s .solved)) (cellOf (slot .row) (slot .column)) (digitChange slot) .digits)
-      (marksAgain (parts [] [] (s .notes) 0) (moveOf slot) (slot .struck) (struckCells slot) .notes)
-      (digitAgain (parts [] (s .digits) [] (s .solved)) (cellOf (slot .row) (slot .column)) (digitChange slot) .solved)
+      (digitAgain s (cellOf (slot .row) (slot .column)) (digitChange slot) .digits)
+      (marksAgain s (moveOf slot) (slot .struck) (struckCells slot) .notes)
+      (digitAgain s (cellOf (slot .row) (slot .column)) (digitChange slot) .solved)
       ≡ performAgain s (moveOf slot) (slot .struck)
   unfolding digitChange moveOf
   again-parts =
       again-by s (slot .row) (slot .column) (slot .digit) (slot .before) (slot .struck) (struckCells slot) (strike-struck slot (s .notes) (slot .digit))
-      (eqb (slot .kind) 2) (eqb (slot .kind) 3) (eqb (slot .kind) 4)
-
-  -- the same one after the other: the digit, then the marks
-  pub again-halves : marksAgain (digitAgain s (cellOf (slot .row) (slot .column)) (digitChange slot)) (moveOf slot) (slot .struck) (struckCells slot)
-      ≡ performAgain s (moveOf slot) (slot .struck)
-  again-halves =
-      let d : State = digitAgain (parts [] (s .digits) [] (s .solved)) (cellOf (slot .row) (slot .column)) (digitChange slot) in
-      ap (λ (t : State). marksAgain t (moveOf slot) (slot .struck) (struckCells slot)) (sym (digit-again-parts s (cellOf (slot .row) (slot .column)) (digitChange slot)))
-      ∙ sym (marks-again-parts (parts (s .given) (d .digits) (s .notes) (d .solved)) (moveOf slot) (slot .struck) (struckCells slot))
-      ∙ again-parts
+      (eqb (slot .kind) placeKind) (eqb (slot .kind) eraseKind) (eqb (slot .kind) writeKind)
 
   -- what stands, asked of the digits and of the notes, where the slot is sound
-  module _ (h : soundFor (s .given) slot ≡ true) where
-    pub left-parts : both (digitLeft (parts [] (s .digits) [] 0) (cellOf (slot .row) (slot .column)) (digitChange slot)) (marksLeft (s .notes) (moveOf slot) (slot .struck) (struckCells slot))
+  module _ (h : isSound (s .given) slot ≡ true) where
+    pub left-parts : both (digitLeft (s .digits) (cellOf (slot .row) (slot .column)) (digitChange slot)) (marksLeft (s .notes) (moveOf slot) (slot .struck) (struckCells slot))
         ≡ standsAsLeft s (moveOf slot) (slot .struck)
     unfolding digitChange moveOf noteAt
     left-parts =
         left-by s (slot .row) (slot .column) (slot .digit) (slot .before) (slot .struck) (struckCells slot)
-        (eqb (slot .kind) 2) (eqb (slot .kind) 3) (eqb (slot .kind) 4) (λ k. lack-struck slot (s .given) h (s .notes) (slot .digit))
+        (eqb (slot .kind) placeKind) (eqb (slot .kind) eraseKind) (eqb (slot .kind) writeKind) (λ k. lack-struck slot (s .given) h (s .notes) (slot .digit))
 
-    pub found-parts : both (digitFound (parts [] (s .digits) [] 0) (cellOf (slot .row) (slot .column)) (digitChange slot)) (marksFound (s .notes) (moveOf slot) (slot .struck) (struckCells slot))
+    pub found-parts : both (digitFound (s .digits) (cellOf (slot .row) (slot .column)) (digitChange slot)) (marksFound (s .notes) (moveOf slot) (slot .struck) (struckCells slot))
         ≡ standsAsFound s (moveOf slot) (slot .before) (slot .struck)
     unfolding digitChange moveOf noteAt
     found-parts =
         found-by s (slot .row) (slot .column) (slot .digit) (slot .before) (slot .struck) (struckCells slot)
-        (eqb (slot .kind) 2) (eqb (slot .kind) 3) (eqb (slot .kind) 4) (λ k. have-struck slot (s .given) h (s .notes) (slot .digit) (sound-digit slot (s .given) h k))
+        (eqb (slot .kind) placeKind) (eqb (slot .kind) eraseKind) (eqb (slot .kind) writeKind) (λ k. have-struck slot (s .given) h (s .notes) (slot .digit) (sound-digit slot (s .given) h k))

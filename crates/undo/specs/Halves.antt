@@ -3,11 +3,10 @@
 -- Assumes nothing.
 use Prim.Native.Nat.{ℕ, _+_}
 use mathlib.Core.Bool.{Bool, true, not}
-use mathlib.Core.List.{List, [], _∷_}
+use mathlib.Core.List.{List}
 use lib.Dec.{eqb, leb}
 use lib.ListN.{replicate}
-use Rattle.puzzle.specs.Givens.{isOn}
-use Rattle.sudoku.specs.Tests.{Test, _⇒_, pick}
+use Rattle.sudoku.specs.Tests.{pick}
 use Rattle.sudoku.specs.Grid.{cellOf, at, peersOf}
 use Rattle.note.specs.Note.{contains}
 use Rattle.journal.specs.declared.DigitChange.{DigitChange}
@@ -15,10 +14,8 @@ use Rattle.journal.specs.declared.DigitChange.the-variants.{Put, None}
 use Rattle.journal.specs.declared.Move.{Move}
 use Rattle.journal.specs.declared.Move.the-variants.{Place, Erase, WriteMark, StrikeMark}
 use Rattle.journal.specs.declared.Slot.{Slot}
-use Rattle.journal.specs.State.{State, withNotes, putDigit, digitAt, writeAt, strikeAt, writeMasked, strikeMasked}
+use Rattle.journal.specs.State.{State, withNotes, putDigit, writeAt, strikeAt, writeMasked, strikeMasked}
 use Rattle.journal.specs.InTurn.{lackInTurn, noneMissingInTurn}
-use Rattle.board.specs.declared.Board.{Board}
-use Rattle.play.specs.Play.{lentBy}
 
 -- the digit before, put back at a cell; a move that changes no digit changes nothing here
 unfoldable pub digitBack : State → ℕ → DigitChange → State
@@ -53,14 +50,14 @@ marksAgain s (WriteMark row column digit) mask cells = withNotes s (writeAt (s .
 marksAgain s (StrikeMark row column digit) mask cells = withNotes s (strikeAt (s .notes) (cellOf row column) digit)
 
 -- the digit that a recorded move changed stands as the move left it; a move that changes no digit left every digit
-unfoldable pub digitLeft : State → ℕ → DigitChange → Bool
-digitLeft s cell (Put before after) = eqb (digitAt s cell) after
-digitLeft s cell None = true
+unfoldable pub digitLeft : List ℕ → ℕ → DigitChange → Bool
+digitLeft digits cell (Put before after) = eqb (at digits cell) after
+digitLeft digits cell None = true
 
 -- it stands as the move found it
-unfoldable pub digitFound : State → ℕ → DigitChange → Bool
-digitFound s cell (Put before after) = eqb (digitAt s cell) before
-digitFound s cell None = true
+unfoldable pub digitFound : List ℕ → ℕ → DigitChange → Bool
+digitFound digits cell (Put before after) = eqb (at digits cell) before
+digitFound digits cell None = true
 
 -- the marks that a recorded move changed stand as the move left them, each asked when it is given back
 unfoldable pub marksLeft : List ℕ → Move → ℕ → List ℕ → Bool
@@ -75,10 +72,3 @@ marksFound notes (Place row column digit) mask cells = noneMissingInTurn notes d
 marksFound notes (Erase row column) mask cells = true
 marksFound notes (WriteMark row column digit) mask cells = not (contains (at notes (cellOf row column)) digit)
 marksFound notes (StrikeMark row column digit) mask cells = contains (at notes (cellOf row column)) digit
-
--- the tests of undo and of redo that need no slot; 14 comes after them
-unfoldable pub undoBefore : Board → ℕ → List Test
-undoBefore b bytes = lentBy b bytes ((isOn (b .solved) ⇒ 4) ∷ (eqb (b .standing) 0 ⇒ 12) ∷ [])
-
-unfoldable pub redoBefore : Board → ℕ → List Test
-redoBefore b bytes = lentBy b bytes ((isOn (b .solved) ⇒ 4) ∷ (leb (b .made) (b .standing) ⇒ 13) ∷ [])

@@ -1,80 +1,42 @@
-// What undo and redo ask before they look at a slot, of a board's parts and in the order of the numbers.
-use play::numbers::number_of_lent;
+// What undo and redo ask before they look at a slot, in the order of the numbers.
+use board::Board;
+use board::value::lent_number;
+use journal::JOURNAL_BYTES;
 ghost use mathlib.Core.Path.{_≡_};
 ghost use Prim.Native.Nat.{_<_};
 ghost use Rattle.sudoku.specs.Tests.{first};
-ghost use Rattle.board.specs.Board.{whole};
-ghost use Rattle.undo.specs.Halves.{slotToRedo, undoBefore, redoBefore};
+ghost use Rattle.play.specs.Play.{undoBefore, redoBefore};
+ghost use Rattle.undo.specs.Halves.{slotToRedo};
 
 // Why undo is refused before its slot is asked: 1 2 4 12. 0 where it is not.
-pub fn number_of_undo<'a>(
-    digits: &'a [u8; 81],
-    given: &'a [u8; 81],
-    notes: &'a [u16; 81],
-    solution: &'a [u8; 81],
-    solved: u8,
-    made: usize,
-    standing: usize,
-    checks: usize,
-    bytes: usize,
-) -> u8
-    ensures { λ r. ⌜ (r ≡ first (undoBefore (whole (now (digits .entry)) (now (given .entry)) (now (notes .entry)) (now (solution .entry)) solved made standing checks) bytes)) × (r < 14) ⌝ }
+pub fn undo_number(board: Board, length: usize) -> u8
+    ensures { λ r. ⌜ (r ≡ first (undoBefore board length)) × (r < 14) ⌝ }
 {
-    let lent = number_of_lent(
-        digits,
-        given,
-        notes,
-        solution,
-        solved,
-        made,
-        standing,
-        checks,
-        bytes,
-    );
+    let lent = lent_number(board, length == JOURNAL_BYTES);
     if lent != 0 {
         return lent;
     }
-    if solved != 0 {
+    if board.solved != 0 {
         return 4;
     }
-    if standing == 0 {
+    if board.standing == 0 {
         return 12;
     }
     0
 }
 
 // Why redo is refused before its slot is asked: 1 2 4 13. 0 where it is not.
-pub fn number_of_redo<'a>(
-    digits: &'a [u8; 81],
-    given: &'a [u8; 81],
-    notes: &'a [u16; 81],
-    solution: &'a [u8; 81],
-    solved: u8,
-    made: usize,
-    standing: usize,
-    checks: usize,
-    bytes: usize,
-) -> u8
-    ensures { λ r. ⌜ (r ≡ first (redoBefore (whole (now (digits .entry)) (now (given .entry)) (now (notes .entry)) (now (solution .entry)) solved made standing checks) bytes)) × (r < 14) ⌝ }
+pub fn redo_number(board: Board, length: usize) -> u8
+    ensures { λ r. ⌜ (r ≡ first (redoBefore board length)) × (r < 14) ⌝ }
 {
-    let lent = number_of_lent(
-        digits,
-        given,
-        notes,
-        solution,
-        solved,
-        made,
-        standing,
-        checks,
-        bytes,
-    );
+    let lent = lent_number(board, length == JOURNAL_BYTES);
     if lent != 0 {
         return lent;
     }
-    if solved != 0 {
+    if board.solved != 0 {
         return 4;
     }
-    if made <= standing {
+    if board.made <= board.standing {
         return 13;
     }
     0

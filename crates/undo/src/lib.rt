@@ -1,30 +1,27 @@
 // Undo and redo: a recorded move taken back, and performed again, as its slot says. No slot is written.
-// What a call asks and does is asked of a board's parts and done in place; the board by value goes through that.
+// A call asks what its slot must be, digit and marks, when it changes them, and puts the board back where it is refused.
 pub mod asking;
 pub mod digits;
 pub mod marks;
 
-use asking::number_of_redo;
-use asking::number_of_undo;
+use asking::redo_number;
 use asking::slot_to_redo;
+use asking::undo_number;
 use board::Answer;
 use board::Board;
-use digits::digit_found;
-use digits::digit_left;
 use digits::put_again;
 use digits::put_back;
 use journal::Counts;
 use journal::slots::is_sound;
-use journal::slots::move_of;
 use journal::slots::slot_at;
 use journal::steps::after_retake;
 use journal::steps::after_take_back;
 use marks::give_back;
-use marks::struck_cells;
 use marks::take_again;
 use puzzle::answer::accepted;
 use puzzle::answer::refusal;
 ghost use mathlib.Core.Path.{_≡_};
+ghost use Rattle.board.specs.Board.{whole};
 ghost use Rattle.play.specs.Play.{undoOf, redoOf};
 
 // Takes back the latest standing move. Refused by 1 2 4 12 14.
@@ -35,27 +32,16 @@ pub fn undo(board: Board, journal: &[u8]) -> Answer
         refusal: accepted(),
         board: board,
     };
-    let n = number_of_undo(
-        &answer.board.digits,
-        &answer.board.given,
-        &answer.board.notes,
-        &answer.board.solution,
-        board.solved,
-        board.made,
-        board.standing,
-        board.checks,
-        journal.len(),
-    );
+    let n = undo_number(board, journal.len());
     if n != 0 {
         answer.refusal = refusal(n, 0, 0);
         return answer;
     }
     let slot = slot_at(journal, board.standing);
-    let cells = struck_cells(slot);
-    let digit_stands = digit_left(&answer.board.digits, slot);
-    let marks_stand = give_back(&mut answer.board.notes, move_of(slot), slot.struck, &cells);
-    if !(is_sound(&answer.board.given, slot) & digit_stands & marks_stand) {
-        answer.board = board; // without the marks given back
+    let digit = put_back(&mut answer.board.digits, board.solved, slot);
+    let marks_stood = give_back(&mut answer.board.notes, slot);
+    if !(is_sound(&answer.board.given, slot) & digit.stood & marks_stood) {
+        answer.board = board; // as it came
         answer.refusal = refusal(14, board.standing, 0);
         return answer;
     }
@@ -63,8 +49,7 @@ pub fn undo(board: Board, journal: &[u8]) -> Answer
         made: board.made,
         standing: board.standing,
     });
-    let solved = put_back(&mut answer.board.digits, board.solved, slot);
-    answer.board.solved = solved;
+    answer.board.solved = digit.solved;
     answer.board.made = counts.made;
     answer.board.standing = counts.standing;
     answer
@@ -78,28 +63,17 @@ pub fn redo(board: Board, journal: &[u8]) -> Answer
         refusal: accepted(),
         board: board,
     };
-    let n = number_of_redo(
-        &answer.board.digits,
-        &answer.board.given,
-        &answer.board.notes,
-        &answer.board.solution,
-        board.solved,
-        board.made,
-        board.standing,
-        board.checks,
-        journal.len(),
-    );
+    let n = redo_number(board, journal.len());
     if n != 0 {
         answer.refusal = refusal(n, 0, 0);
         return answer;
     }
     let next = slot_to_redo(board.made, board.standing);
     let slot = slot_at(journal, next);
-    let cells = struck_cells(slot);
-    let digit_stands = digit_found(&answer.board.digits, slot);
-    let marks_stand = take_again(&mut answer.board.notes, move_of(slot), slot.struck, &cells);
-    if !(is_sound(&answer.board.given, slot) & digit_stands & marks_stand) {
-        answer.board = board; // without the marks taken again
+    let digit = put_again(&mut answer.board.digits, board.solved, slot);
+    let marks_stood = take_again(&mut answer.board.notes, slot);
+    if !(is_sound(&answer.board.given, slot) & digit.stood & marks_stood) {
+        answer.board = board; // as it came
         answer.refusal = refusal(14, next, 0);
         return answer;
     }
@@ -107,9 +81,55 @@ pub fn redo(board: Board, journal: &[u8]) -> Answer
         made: board.made,
         standing: board.standing,
     });
-    let solved = put_again(&mut answer.board.digits, board.solved, slot);
-    answer.board.solved = solved;
+    answer.board.solved = digit.solved;
     answer.board.made = counts.made;
     answer.board.standing = counts.standing;
     answer
+}
+
+// Undo on a board whose parts are lent, in place; a refused one leaves them. Reopening takes back so, one move after the
+// other: by value each step would copy the board four times, and `undo` with a second caller takes 13 ns longer, since
+// the compiler then copies its answer once more (docs/DECISIONS.md, 29).
+pub fn undo_in<'a>(
+    digits: &mut [u8; 81],
+    given: &'a [u8; 81],
+    notes: &mut [u16; 81],
+    solution: &'a [u8; 81],
+    solved: &mut u8,
+    made: usize,
+    standing: &mut usize,
+    checks: usize,
+    journal: &&[u8],
+)
+    ensures { λ _. ⌜ whole (now (digits .exit)) (now (given .entry)) (now (notes .exit)) (now (solution .entry)) (now (solved .exit)) made (now (standing .exit)) checks ≡ undoOf (whole (now (digits .entry)) (now (given .entry)) (now (notes .entry)) (now (solution .entry)) (now (solved .entry)) made (now (standing .entry)) checks) (now (now (journal .entry))) .board ⌝ }
+{
+    let board = Board {
+        digits: *digits,
+        given: *given,
+        notes: *notes,
+        solution: *solution,
+        solved: *solved,
+        made: made,
+        standing: *standing,
+        checks: checks,
+    };
+    if undo_number(board, journal.len()) != 0 {
+        return;
+    }
+    let slot = slot_at(*journal, board.standing);
+    let digit = put_back(digits, board.solved, slot);
+    let marks_stood = give_back(notes, slot);
+    if !(is_sound(given, slot) & digit.stood & marks_stood) {
+        let digits_before = board.digits;
+        let notes_before = board.notes;
+        *digits = digits_before;
+        *notes = notes_before;
+        return;
+    }
+    let counts = after_take_back(Counts {
+        made: made,
+        standing: board.standing,
+    });
+    *solved = digit.solved;
+    *standing = counts.standing;
 }

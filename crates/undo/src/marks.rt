@@ -1,6 +1,5 @@
 // The marks of a recorded move given back, and taken again, in place. A slot's mask speaks of the peers of its cell: they are asked for once, and lent to the loops.
 // Each change answers whether the marks stood as they must before it: one loop over twenty peers does both, and whoever is told no puts the notes back.
-use board::Board;
 use journal::Move;
 use journal::Slot;
 use journal::notes::note_at;
@@ -13,19 +12,19 @@ use note::contains;
 use sudoku::cell_of;
 use sudoku::peers;
 ghost use mathlib.Core.Path.{_≡_};
-ghost use mathlib.Core.Bool.{false, not};
-ghost use mathlib.Core.List.{[]};
+ghost use Prim.Native.Nat.{ℕ};
+ghost use mathlib.Core.Bool.{not};
+ghost use mathlib.Core.List.{List};
 ghost use Rattle.sudoku.specs.Grid.{at};
 ghost use Rattle.note.specs.Note.{contains as containsOf};
 ghost use Rattle.journal.specs.State.{writeAt, strikeAt, writeMasked, strikeMasked};
 ghost use Rattle.journal.specs.InTurn.{lackInTurn, noneMissingInTurn};
 ghost use Rattle.journal.specs.Slots.{moveOf};
-ghost use Rattle.board.specs.Board.{stateOf, countsOf, moved};
 ghost use Rattle.play.specs.Parts.{parts};
 ghost use Rattle.undo.specs.Halves.{struckCells, marksBack, marksAgain, marksLeft, marksFound};
 
 // The peers that a slot's mask speaks of. A mask of 0 speaks of none, and twenty zeros stand for them: a place that struck nothing needs no peers.
-pub fn struck_cells(slot: Slot) -> [u8; 20]
+fn struck_cells(slot: Slot) -> [u8; 20]
     ensures { λ r. ⌜ r ≡ struckCells slot ⌝ }
 {
     if slot.struck == 0 {
@@ -73,15 +72,17 @@ fn strike_again(notes: &mut [u16; 81], digit: u8, mask: u32, cells: &[u8; 20]) -
 }
 
 // Exactly the marks that were struck, or the mark changed, given back in place. Answered is whether they stood as the move left them.
-pub fn give_back(notes: &mut [u16; 81], m: Move, mask: u32, cells: &[u8; 20]) -> bool
-    ensures { λ r. ⌜ (r ≡ marksLeft (now (notes .entry)) m mask (now (cells .entry))) × (now (notes .exit) ≡ marksBack (parts [] [] (now (notes .entry)) 0) m mask (now (cells .entry)) .notes) ⌝ }
+pub fn give_back(notes: &mut [u16; 81], slot: Slot) -> bool
+    ensures { λ r. ⌜ (r ≡ marksLeft (now (notes .entry)) (moveOf slot) (slot .struck) (struckCells slot)) × ((given digits : List ℕ) (solved : ℕ) → now (notes .exit) ≡ marksBack (parts given digits (now (notes .entry)) solved) (moveOf slot) (slot .struck) (struckCells slot) .notes) ⌝ }
 {
+    let cells = struck_cells(slot);
+    let m = move_of(slot);
     match m {
         Move::Place {
             row: _,
             column: _,
             digit,
-        } => restore(notes, digit, mask, cells),
+        } => restore(notes, digit, slot.struck, &cells),
         Move::Erase { row: _, column: _ } => true,
         Move::WriteMark { row, column, digit } => strike_standing(
             notes,
@@ -97,15 +98,17 @@ pub fn give_back(notes: &mut [u16; 81], m: Move, mask: u32, cells: &[u8; 20]) ->
 }
 
 // Exactly the marks in the mask, or the mark changed, struck or written again in place. Answered is whether they stood as the move found them; what is no digit is missing nowhere.
-pub fn take_again(notes: &mut [u16; 81], m: Move, mask: u32, cells: &[u8; 20]) -> bool
-    ensures { λ r. ⌜ (r ≡ marksFound (now (notes .entry)) m mask (now (cells .entry))) × (now (notes .exit) ≡ marksAgain (parts [] [] (now (notes .entry)) 0) m mask (now (cells .entry)) .notes) ⌝ }
+pub fn take_again(notes: &mut [u16; 81], slot: Slot) -> bool
+    ensures { λ r. ⌜ (r ≡ marksFound (now (notes .entry)) (moveOf slot) (slot .struck) (struckCells slot)) × ((given digits : List ℕ) (solved : ℕ) → now (notes .exit) ≡ marksAgain (parts given digits (now (notes .entry)) solved) (moveOf slot) (slot .struck) (struckCells slot) .notes) ⌝ }
 {
+    let cells = struck_cells(slot);
+    let m = move_of(slot);
     match m {
         Move::Place {
             row: _,
             column: _,
             digit,
-        } => strike_again(notes, digit, mask, cells),
+        } => strike_again(notes, digit, slot.struck, &cells),
         Move::Erase { row: _, column: _ } => true,
         Move::WriteMark { row, column, digit } => write_lacking(notes, cell_of(row, column), digit),
         Move::StrikeMark { row, column, digit } => strike_standing(
@@ -114,14 +117,4 @@ pub fn take_again(notes: &mut [u16; 81], m: Move, mask: u32, cells: &[u8; 20]) -
             digit,
         ),
     }
-}
-
-// The marks of a slot taken again on a board, however they stand.
-pub fn marks_again(board: Board, slot: Slot) -> Board
-    ensures { λ r. ⌜ r ≡ moved board (marksAgain (stateOf board) (moveOf slot) (slot .struck) (struckCells slot)) (countsOf board) ⌝ }
-{
-    let cells = struck_cells(slot);
-    let mut next = board;
-    take_again(&mut next.notes, move_of(slot), slot.struck, &cells);
-    next
 }

@@ -1,6 +1,6 @@
 -- `questions::cell_answer` meets its contract: each part is what its own function says.
 -- Assumes nothing.
-use Rattle.journal.specs.State.{isGiven, givensOnly, digitAt, noteAt}
+use Rattle.journal.specs.State.{digitAt, noteAt}
 use Rattle.board.specs.Board.{stateOf}
 use borrow.Author.Needs.{needs}
 use Rattle.questions.specs.Questions.{cellAnswer}
@@ -23,7 +23,7 @@ accepted-requires : tie.Need-accepted-requires
 accepted-requires c κs = search needs
 
 returns : tie.Need-returns
-unfolding cellAnswer stateOf givensOnly isGiven digitAt noteAt
+unfolding cellAnswer stateOf digitAt noteAt
 returns c = rw (c .accepted .ensures, c .before .before .before .before .before .before .before .before .before .before .digit-at .ensures, c .before .before .before .before .before .before .before .is-given .ensures, c .before .before .before .before .conflicts .ensures, c .before .note-at .ensures)
 
 pub cell-answer-spec : {M : Type 1} → statement M

@@ -1,6 +1,6 @@
 -- `questions::holds_players_digit` meets its contract.
 -- Assumes nothing.
-use Rattle.journal.specs.State.{holdsPlayersDigit, isGiven}
+use Rattle.journal.specs.State.{holdsPlayersDigit}
 use Rattle.board.specs.Board.{stateOf}
 use borrow.Author.Needs.{needs}
 use Rattle.questions.specs.Questions.{playersDigitQuestion}
@@ -20,7 +20,7 @@ yes-no-requires : tie.Need-yes-no-requires
 yes-no-requires c κs = search needs
 
 returns : tie.Need-returns
-unfolding playersDigitQuestion holdsPlayersDigit isGiven stateOf
+unfolding playersDigitQuestion holdsPlayersDigit stateOf
 returns c = rw (c .yes-no .ensures, c .before .before .before .before .before .before .cell-number .ensures, c .before .holds-players-digit .ensures, c .before .before .cell-of .ensures .0)
 
 pub holds-players-digit-spec : {M : Type 1} → statement M

@@ -20,16 +20,16 @@ use Rattle.undo.proofs.redo.Tie as tie
 accepted-requires : tie.Need-accepted-requires
 accepted-requires c κs = search needs
 
-number-of-redo-requires : tie.Need-number-of-redo-requires
-number-of-redo-requires c κs = search needs
+redo-number-requires : tie.Need-redo-number-requires
+redo-number-requires c κs = search needs
 
 refusal-requires : tie.Need-refusal-requires
 refusal-requires c κs = search needs
 
 returns : tie.Need-returns
 returns c =
-    let a = c .before .before .before .before .before .before .before .before .before .before .args in
-    rw (c .refusal .ensures) (redo-stopped (a .board) (a .journal .now) _ (c .before .before .number-of-redo .ensures .0) (c .before .before .number-of-redo .ensures .1) (c .before .if1 .taken))
+    let a = c .before .before .before .before .before .args in
+    rw (c .refusal .ensures) (redo-stopped (a .board) (a .journal .now) _ (c .before .before .redo-number .ensures .0) (c .before .before .redo-number .ensures .1) (c .before .if1 .taken))
 
 slot-to-redo-requires : tie.Need-slot-to-redo-requires
 slot-to-redo-requires c κs = search needs
@@ -37,14 +37,8 @@ slot-to-redo-requires c κs = search needs
 slot-at-requires : tie.Need-slot-at-requires
 slot-at-requires c κs = search needs
 
-struck-cells-requires : tie.Need-struck-cells-requires
-struck-cells-requires c κs = search needs
-
-digit-found-requires : tie.Need-digit-found-requires
-digit-found-requires c κs = search needs
-
-move-of-requires : tie.Need-move-of-requires
-move-of-requires c κs = search needs
+put-again-requires : tie.Need-put-again-requires
+put-again-requires c κs = search needs
 
 take-again-requires : tie.Need-take-again-requires
 take-again-requires c κs = search needs
@@ -58,27 +52,23 @@ refusal-requires-2 c κs = search needs
 returns-2 : tie.Need-returns-2
 unfolding stateOf
 returns-2 c =
-    let a = c .before .before .before .before .before .before .before .before .before .before .before .before .before .before .before .before .before .before .before .before .before .before .before .before .args in
-    let nth = c .before .before .before .before .before .before .before .before .before .before .before .before .before .before .slot-to-redo .ensures ∙ next-standing (a .board .made) (a .board .standing) (redo-more (a .board) (a .journal .now) _ (c .before .before .before .before .before .before .before .before .before .before .before .before .before .before .before .before .number-of-redo .ensures .0) (c .before .before .before .before .before .before .before .before .before .before .before .before .before .before .before .if1 .left)) in
-    let ok : canRetake (stateOf (a .board)) (slotAt (a .journal .now) (a .board .standing + 1)) ≡ ((c .before .before .is-sound .result && c .before .before .before .before .before .before .before .before .before .digit-found .result) && c .before .before .before .before .before .take-again .result) =
-    rw (c .before .before .is-sound .ensures, c .before .before .before .before .before .before .before .before .before .digit-found .ensures, c .before .before .before .before .before .take-again .ensures .0, c .before .before .before .before .before .before .before .move-of .ensures, c .before .before .before .before .before .before .before .before .before .before .before .before .struck-cells .ensures, c .before .before .before .before .before .before .before .before .before .before .before .before .before .slot-at .ensures, nth) (sym (retake-parts (stateOf (a .board)) (slotAt (a .journal .now) (a .board .standing + 1)))) in
-    rw (c .refusal2 .ensures, nth) (redo-unfit (a .board) (a .journal .now) _ (c .before .before .before .before .before .before .before .before .before .before .before .before .before .before .before .before .number-of-redo .ensures .0) (c .before .before .before .before .before .before .before .before .before .before .before .before .before .before .before .if1 .left) (ap not ok ∙ c .before .if2 .taken))
+    let a = c .before .before .before .before .before .before .before .before .before .before .before .before .before .before .before .before .args in
+    let ok : canRetake (stateOf (a .board)) (slotAt (a .journal .now) (a .board .standing + 1)) ≡ ((c .before .before .before .is-sound .result && c .before .before .before .before .before .before .before .before .put-again .result .stood) && c .before .before .before .before .before .before .take-again .result) =
+    rw (c .before .before .before .is-sound .ensures, c .before .before .before .before .before .before .before .before .put-again .ensures .0, c .before .before .before .before .before .before .take-again .ensures .0, c .before .before .before .before .before .before .before .before .before .before .slot-at .ensures, c .before .before .before .before .before .before .before .before .before .before .before .slot-to-redo .ensures, next-standing (a .board .made) (a .board .standing) (redo-more (a .board) (a .journal .now) _ (c .before .before .before .before .before .before .before .before .before .before .before .before .before .redo-number .ensures .0) (c .before .before .before .before .before .before .before .before .before .before .before .before .if1 .left))) (sym (retake-parts (stateOf (a .board)) (slotAt (a .journal .now) (a .board .standing + 1)))) in
+    rw (c .refusal2 .ensures, c .before .before .before .before .before .before .before .before .before .before .before .slot-to-redo .ensures, next-standing (a .board .made) (a .board .standing) (redo-more (a .board) (a .journal .now) _ (c .before .before .before .before .before .before .before .before .before .before .before .before .before .redo-number .ensures .0) (c .before .before .before .before .before .before .before .before .before .before .before .before .if1 .left))) (redo-unfit (a .board) (a .journal .now) _ (c .before .before .before .before .before .before .before .before .before .before .before .before .before .redo-number .ensures .0) (c .before .before .before .before .before .before .before .before .before .before .before .before .if1 .left) (ap not ok ∙ c .before .if2 .taken))
 
 after-retake-requires : tie.Need-after-retake-requires
 after-retake-requires c κs = search needs
 
-put-again-requires : tie.Need-put-again-requires
-put-again-requires c κs = search needs
-
 returns-3 : tie.Need-returns-3
 unfolding redone moved boardOf stateOf countsOf
 returns-3 c =
-    let a = c .before .before .before .before .before .before .before .before .before .before .before .before .before .before .before .before .before .before .before .before .before .before .before .before .before .before .before .before .before .args in
-    let nth = c .before .before .before .before .before .before .before .before .before .before .before .before .before .before .before .before .before .before .before .slot-to-redo .ensures ∙ next-standing (a .board .made) (a .board .standing) (redo-more (a .board) (a .journal .now) _ (c .before .before .before .before .before .before .before .before .before .before .before .before .before .before .before .before .before .before .before .before .before .number-of-redo .ensures .0) (c .before .before .before .before .before .before .before .before .before .before .before .before .before .before .before .before .before .before .before .before .if1 .left)) in
-    let ok : canRetake (stateOf (a .board)) (slotAt (a .journal .now) (a .board .standing + 1)) ≡ ((c .before .before .before .before .before .before .before .is-sound .result && c .before .before .before .before .before .before .before .before .before .before .before .before .before .before .digit-found .result) && c .before .before .before .before .before .before .before .before .before .before .take-again .result) =
-    rw (c .before .before .before .before .before .before .before .is-sound .ensures, c .before .before .before .before .before .before .before .before .before .before .before .before .before .before .digit-found .ensures, c .before .before .before .before .before .before .before .before .before .before .take-again .ensures .0, c .before .before .before .before .before .before .before .before .before .before .before .before .move-of .ensures, c .before .before .before .before .before .before .before .before .before .before .before .before .before .before .before .before .before .struck-cells .ensures, c .before .before .before .before .before .before .before .before .before .before .before .before .before .before .before .before .before .before .slot-at .ensures, nth) (sym (retake-parts (stateOf (a .board)) (slotAt (a .journal .now) (a .board .standing + 1)))) in
-    let none = redo-fit (a .board) (a .journal .now) _ (c .before .before .before .before .before .before .before .before .before .before .before .before .before .before .before .before .before .before .before .before .before .number-of-redo .ensures .0) (c .before .before .before .before .before .before .before .before .before .before .before .before .before .before .before .before .before .before .before .before .if1 .left) (ap not ok ∙ c .before .before .before .before .before .before .if2 .left) in
-    rw (c .before .before .before .before .before .before .before .before .before .before .before .before .before .before .before .before .before .before .before .before .before .before .before .before .before .before .before .accepted .ensures, c .before .before .before .before .before .before .before .before .before .before .take-again .ensures .1, c .before .before .before .before .before .before .before .before .before .before .before .before .move-of .ensures, c .before .before .before .put-again .ensures .0, c .before .before .before .put-again .ensures .1, c .before .before .before .before .before .after-retake .ensures, c .before .before .before .before .before .before .before .before .before .before .before .before .before .before .before .before .before .struck-cells .ensures, c .before .before .before .before .before .before .before .before .before .before .before .before .before .before .before .before .before .before .slot-at .ensures, nth)
+    let a = c .before .before .before .before .before .before .before .before .before .before .before .before .before .before .before .before .before .before .before .args in
+    let ok : canRetake (stateOf (a .board)) (slotAt (a .journal .now) (a .board .standing + 1)) ≡ ((c .before .before .before .before .before .before .is-sound .result && c .before .before .before .before .before .before .before .before .before .before .before .put-again .result .stood) && c .before .before .before .before .before .before .before .before .before .take-again .result) =
+    rw (c .before .before .before .before .before .before .is-sound .ensures, c .before .before .before .before .before .before .before .before .before .before .before .put-again .ensures .0, c .before .before .before .before .before .before .before .before .before .take-again .ensures .0, c .before .before .before .before .before .before .before .before .before .before .before .before .before .slot-at .ensures, c .before .before .before .before .before .before .before .before .before .before .before .before .before .before .slot-to-redo .ensures, next-standing (a .board .made) (a .board .standing) (redo-more (a .board) (a .journal .now) _ (c .before .before .before .before .before .before .before .before .before .before .before .before .before .before .before .before .redo-number .ensures .0) (c .before .before .before .before .before .before .before .before .before .before .before .before .before .before .before .if1 .left))) (sym (retake-parts (stateOf (a .board)) (slotAt (a .journal .now) (a .board .standing + 1)))) in
+    let none = redo-fit (a .board) (a .journal .now) _ (c .before .before .before .before .before .before .before .before .before .before .before .before .before .before .before .before .redo-number .ensures .0) (c .before .before .before .before .before .before .before .before .before .before .before .before .before .before .before .if1 .left) (ap not ok ∙ c .before .before .before .before .if2 .left) in
+    let digit = c .before .before .before .before .before .before .before .before .before .before .before .put-again .ensures .1 (a .board .given) (a .board .notes) in
+    rw (c .before .before .before .before .before .before .before .before .before .before .before .before .before .before .before .before .before .accepted .ensures, c .before .before .before .before .before .before .before .before .before .take-again .ensures .1 (a .board .given) (a .board .digits) (a .board .solved), digit .0, digit .1, c .before .before .before .after-retake .ensures, c .before .before .before .before .before .before .before .before .before .before .before .before .before .slot-at .ensures, c .before .before .before .before .before .before .before .before .before .before .before .before .before .before .slot-to-redo .ensures, next-standing (a .board .made) (a .board .standing) (redo-more (a .board) (a .journal .now) _ (c .before .before .before .before .before .before .before .before .before .before .before .before .before .before .before .before .redo-number .ensures .0) (c .before .before .before .before .before .before .before .before .before .before .before .before .before .before .before .if1 .left)))
     (ap (λ (s : State). answer accepted (moved (a .board) s (retaken (countsOf (a .board))))) (again-parts (stateOf (a .board)) (slotAt (a .journal .now) (a .board .standing + 1))) ∙ redo-made (a .board) (a .journal .now) none)
 
 pub redo-spec : {M : Type 1} → statement M
@@ -86,18 +76,15 @@ redo-spec =
     tie.close
     (tie.spec
     accepted-requires
-    number-of-redo-requires
+    redo-number-requires
     refusal-requires
     returns
     slot-to-redo-requires
     slot-at-requires
-    struck-cells-requires
-    digit-found-requires
-    move-of-requires
+    put-again-requires
     take-again-requires
     is-sound-requires
     refusal-requires-2
     returns-2
     after-retake-requires
-    put-again-requires
     returns-3)

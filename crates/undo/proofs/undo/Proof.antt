@@ -19,28 +19,22 @@ use Rattle.undo.proofs.undo.Tie as tie
 accepted-requires : tie.Need-accepted-requires
 accepted-requires c κs = search needs
 
-number-of-undo-requires : tie.Need-number-of-undo-requires
-number-of-undo-requires c κs = search needs
+undo-number-requires : tie.Need-undo-number-requires
+undo-number-requires c κs = search needs
 
 refusal-requires : tie.Need-refusal-requires
 refusal-requires c κs = search needs
 
 returns : tie.Need-returns
 returns c =
-    let a = c .before .before .before .before .before .before .before .before .before .before .args in
-    rw (c .refusal .ensures) (undo-stopped (a .board) (a .journal .now) _ (c .before .before .number-of-undo .ensures .0) (c .before .before .number-of-undo .ensures .1) (c .before .if1 .taken))
+    let a = c .before .before .before .before .before .args in
+    rw (c .refusal .ensures) (undo-stopped (a .board) (a .journal .now) _ (c .before .before .undo-number .ensures .0) (c .before .before .undo-number .ensures .1) (c .before .if1 .taken))
 
 slot-at-requires : tie.Need-slot-at-requires
 slot-at-requires c κs = search needs
 
-struck-cells-requires : tie.Need-struck-cells-requires
-struck-cells-requires c κs = search needs
-
-digit-left-requires : tie.Need-digit-left-requires
-digit-left-requires c κs = search needs
-
-move-of-requires : tie.Need-move-of-requires
-move-of-requires c κs = search needs
+put-back-requires : tie.Need-put-back-requires
+put-back-requires c κs = search needs
 
 give-back-requires : tie.Need-give-back-requires
 give-back-requires c κs = search needs
@@ -54,25 +48,23 @@ refusal-requires-2 c κs = search needs
 returns-2 : tie.Need-returns-2
 unfolding stateOf
 returns-2 c =
-    let a = c .before .before .before .before .before .before .before .before .before .before .before .before .before .before .before .before .before .before .before .before .before .before .before .args in
-    let ok : canTakeBack (stateOf (a .board)) (slotAt (a .journal .now) (a .board .standing)) ≡ ((c .before .before .is-sound .result && c .before .before .before .before .before .before .before .before .before .digit-left .result) && c .before .before .before .before .before .give-back .result) =
-    rw (c .before .before .is-sound .ensures, c .before .before .before .before .before .before .before .before .before .digit-left .ensures, c .before .before .before .before .before .give-back .ensures .0, c .before .before .before .before .before .before .before .move-of .ensures, c .before .before .before .before .before .before .before .before .before .before .before .before .struck-cells .ensures, c .before .before .before .before .before .before .before .before .before .before .before .before .before .slot-at .ensures) (sym (take-back-parts (stateOf (a .board)) (slotAt (a .journal .now) (a .board .standing)))) in
-    rw (c .refusal2 .ensures) (undo-unfit (a .board) (a .journal .now) _ (c .before .before .before .before .before .before .before .before .before .before .before .before .before .before .before .number-of-undo .ensures .0) (c .before .before .before .before .before .before .before .before .before .before .before .before .before .before .if1 .left) (ap not ok ∙ c .before .if2 .taken))
+    let a = c .before .before .before .before .before .before .before .before .before .before .before .before .before .before .before .args in
+    let ok : canTakeBack (stateOf (a .board)) (slotAt (a .journal .now) (a .board .standing)) ≡ ((c .before .before .before .is-sound .result && c .before .before .before .before .before .before .before .before .put-back .result .stood) && c .before .before .before .before .before .before .give-back .result) =
+    rw (c .before .before .before .is-sound .ensures, c .before .before .before .before .before .before .before .before .put-back .ensures .0, c .before .before .before .before .before .before .give-back .ensures .0, c .before .before .before .before .before .before .before .before .before .before .slot-at .ensures) (sym (take-back-parts (stateOf (a .board)) (slotAt (a .journal .now) (a .board .standing)))) in
+    rw (c .refusal2 .ensures) (undo-unfit (a .board) (a .journal .now) _ (c .before .before .before .before .before .before .before .before .before .before .before .before .undo-number .ensures .0) (c .before .before .before .before .before .before .before .before .before .before .before .if1 .left) (ap not ok ∙ c .before .if2 .taken))
 
 after-take-back-requires : tie.Need-after-take-back-requires
 after-take-back-requires c κs = search needs
 
-put-back-requires : tie.Need-put-back-requires
-put-back-requires c κs = search needs
-
 returns-3 : tie.Need-returns-3
 unfolding undone moved boardOf stateOf countsOf
 returns-3 c =
-    let a = c .before .before .before .before .before .before .before .before .before .before .before .before .before .before .before .before .before .before .before .before .before .before .before .before .before .before .before .before .args in
-    let ok : canTakeBack (stateOf (a .board)) (slotAt (a .journal .now) (a .board .standing)) ≡ ((c .before .before .before .before .before .before .before .is-sound .result && c .before .before .before .before .before .before .before .before .before .before .before .before .before .before .digit-left .result) && c .before .before .before .before .before .before .before .before .before .before .give-back .result) =
-    rw (c .before .before .before .before .before .before .before .is-sound .ensures, c .before .before .before .before .before .before .before .before .before .before .before .before .before .before .digit-left .ensures, c .before .before .before .before .before .before .before .before .before .before .give-back .ensures .0, c .before .before .before .before .before .before .before .before .before .before .before .before .move-of .ensures, c .before .before .before .before .before .before .before .before .before .before .before .before .before .before .before .before .before .struck-cells .ensures, c .before .before .before .before .before .before .before .before .before .before .before .before .before .before .before .before .before .before .slot-at .ensures) (sym (take-back-parts (stateOf (a .board)) (slotAt (a .journal .now) (a .board .standing)))) in
-    let none = undo-fit (a .board) (a .journal .now) _ (c .before .before .before .before .before .before .before .before .before .before .before .before .before .before .before .before .before .before .before .before .number-of-undo .ensures .0) (c .before .before .before .before .before .before .before .before .before .before .before .before .before .before .before .before .before .before .before .if1 .left) (ap not ok ∙ c .before .before .before .before .before .before .if2 .left) in
-    rw (c .before .before .before .before .before .before .before .before .before .before .before .before .before .before .before .before .before .before .before .before .before .before .before .before .before .before .accepted .ensures, c .before .before .before .before .before .before .before .before .before .before .give-back .ensures .1, c .before .before .before .before .before .before .before .before .before .before .before .before .move-of .ensures, c .before .before .before .put-back .ensures .0, c .before .before .before .put-back .ensures .1, c .before .before .before .before .before .after-take-back .ensures, c .before .before .before .before .before .before .before .before .before .before .before .before .before .before .before .before .before .struck-cells .ensures, c .before .before .before .before .before .before .before .before .before .before .before .before .before .before .before .before .before .before .slot-at .ensures)
+    let a = c .before .before .before .before .before .before .before .before .before .before .before .before .before .before .before .before .before .before .args in
+    let ok : canTakeBack (stateOf (a .board)) (slotAt (a .journal .now) (a .board .standing)) ≡ ((c .before .before .before .before .before .before .is-sound .result && c .before .before .before .before .before .before .before .before .before .before .before .put-back .result .stood) && c .before .before .before .before .before .before .before .before .before .give-back .result) =
+    rw (c .before .before .before .before .before .before .is-sound .ensures, c .before .before .before .before .before .before .before .before .before .before .before .put-back .ensures .0, c .before .before .before .before .before .before .before .before .before .give-back .ensures .0, c .before .before .before .before .before .before .before .before .before .before .before .before .before .slot-at .ensures) (sym (take-back-parts (stateOf (a .board)) (slotAt (a .journal .now) (a .board .standing)))) in
+    let none = undo-fit (a .board) (a .journal .now) _ (c .before .before .before .before .before .before .before .before .before .before .before .before .before .before .before .undo-number .ensures .0) (c .before .before .before .before .before .before .before .before .before .before .before .before .before .before .if1 .left) (ap not ok ∙ c .before .before .before .before .if2 .left) in
+    let digit = c .before .before .before .before .before .before .before .before .before .before .before .put-back .ensures .1 (a .board .given) (a .board .notes) in
+    rw (c .before .before .before .before .before .before .before .before .before .before .before .before .before .before .before .before .accepted .ensures, c .before .before .before .before .before .before .before .before .before .give-back .ensures .1 (a .board .given) (a .board .digits) (a .board .solved), digit .0, digit .1, c .before .before .before .after-take-back .ensures, c .before .before .before .before .before .before .before .before .before .before .before .before .before .slot-at .ensures)
     (ap (λ (s : State). answer accepted (moved (a .board) s (takenBack (countsOf (a .board))))) (back-parts (stateOf (a .board)) (slotAt (a .journal .now) (a .board .standing))) ∙ undo-made (a .board) (a .journal .now) none)
 
 pub undo-spec : {M : Type 1} → statement M
@@ -80,17 +72,14 @@ undo-spec =
     tie.close
     (tie.spec
     accepted-requires
-    number-of-undo-requires
+    undo-number-requires
     refusal-requires
     returns
     slot-at-requires
-    struck-cells-requires
-    digit-left-requires
-    move-of-requires
+    put-back-requires
     give-back-requires
     is-sound-requires
     refusal-requires-2
     returns-2
     after-take-back-requires
-    put-back-requires
     returns-3)

@@ -2,7 +2,6 @@
 -- Assumes nothing.
 use mathlib.Core.Path.{sym, _∙_}
 use Rattle.sudoku.specs.Tests.{both}
-use Rattle.journal.specs.State.{isGiven, givensOnly}
 use Rattle.sudoku.proofs.Walks.{both-false-left}
 use borrow.Author.Needs.{needs}
 use Rattle.board.proofs.cell.holds_players_digit.Statement.{statement}
@@ -15,7 +14,7 @@ is-given-requires : tie.Need-is-given-requires
 is-given-requires c κs = search needs
 
 returns : tie.Need-returns
-unfolding both isGiven givensOnly
+unfolding both
 returns c = rw (← c .before .before .holds-digit .ensures, c .before .if1 .taken, c .is-given .ensures)
 
 returns-2 : tie.Need-returns-2

@@ -3,8 +3,8 @@
 use mathlib.Core.Path.{_∙_}
 use native.Mathlib.Omega.{arith}
 use borrow.Author.Needs.{needs}
-use Rattle.journal.specs.StoredChecks.{checkStart}
-use Rattle.journal.proofs.CheckLaws.{check-read, check-past}
+use Rattle.journal.specs.StoredChecks.{checkStart, verdictByte, isSoundCheck}
+use Rattle.journal.proofs.CheckLaws.{check-past}
 use Rattle.journal.proofs.checks.is_sound_check.Statement.{statement}
 use Rattle.journal.proofs.checks.is_sound_check.Tie as tie
 
@@ -58,8 +58,8 @@ sound-fields-requires : tie.Need-sound-fields-requires
 sound-fields-requires c κs = search needs
 
 returns-2 : tie.Need-returns-2
-unfolding checkStart
-returns-2 c = c .sound-fields .ensures ∙ rw (c .before .before .before .before .before .two .ensures, c .before .byte-at6 .ensures, c .before .before .byte-at5 .ensures, c .before .before .before .byte-at4 .ensures, c .before .before .before .before .byte-at3 .ensures, c .before .before .before .before .before .before .byte-at2 .ensures, c .before .before .before .before .before .before .before .byte-at .ensures, c .before .before .before .before .before .before .before .before .before .index-of .ensures) (check-read _ _ _)
+unfolding checkStart isSoundCheck verdictByte
+returns-2 c = c .sound-fields .ensures ∙ rw (c .before .before .before .before .before .two .ensures, c .before .byte-at6 .ensures, c .before .before .byte-at5 .ensures, c .before .before .before .byte-at4 .ensures, c .before .before .before .before .byte-at3 .ensures, c .before .before .before .before .before .before .byte-at2 .ensures, c .before .before .before .before .before .before .before .byte-at .ensures, c .before .before .before .before .before .before .before .before .before .index-of .ensures)
 
 pub is-sound-check-spec : {M : Type 1} → statement M
 is-sound-check-spec =

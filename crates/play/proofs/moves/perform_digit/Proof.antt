@@ -33,19 +33,19 @@ enum-told-2 c = search needs
 
 returns : tie.Need-returns
 unfolding perform putDigit withNotes
-returns c = rw (c .before .before .before .before .m .given .1, ← c .before .cell-of .ensures .0) (c .put-in .ensures)
+returns c given notes = rw (c .before .before .before .before .m .given .1, ← c .before .cell-of .ensures .0) (c .put-in .ensures given notes)
 
 returns-2 : tie.Need-returns-2
 unfolding perform putDigit withNotes
-returns-2 c = rw (c .before .before .before .before .m2 .given .1, ← c .before .cell-of2 .ensures .0) (c .put-in2 .ensures)
+returns-2 c given notes = rw (c .before .before .before .before .m2 .given .1, ← c .before .cell-of2 .ensures .0) (c .put-in2 .ensures given notes)
 
 returns-3 : tie.Need-returns-3
 unfolding perform putDigit withNotes
-returns-3 c = rw (c .enum-told .given .1) (refl, refl)
+returns-3 c given notes = rw (c .enum-told .given .1) (refl, refl)
 
 returns-4 : tie.Need-returns-4
 unfolding perform putDigit withNotes
-returns-4 c = rw (c .enum-told2 .given .1) (refl, refl)
+returns-4 c given notes = rw (c .enum-told2 .given .1) (refl, refl)
 
 pub perform-digit-spec : {M : Type 1} → statement M
 perform-digit-spec =

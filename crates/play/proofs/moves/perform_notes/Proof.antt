@@ -37,19 +37,19 @@ strike-in-requires c κs = search needs
 
 returns : tie.Need-returns
 unfolding perform putDigit withNotes
-returns c = rw (c .before .before .before .before .m .given .1, ← c .before .cell-of .ensures .0) (c .strike-peers .ensures)
+returns c given digits solved = rw (c .before .before .before .before .m .given .1, ← c .before .cell-of .ensures .0) (c .strike-peers .ensures)
 
 returns-2 : tie.Need-returns-2
 unfolding perform putDigit withNotes
-returns-2 c = rw (c .enum-told .given .1)
+returns-2 c given digits solved = rw (c .enum-told .given .1)
 
 returns-3 : tie.Need-returns-3
 unfolding perform putDigit withNotes
-returns-3 c = rw (c .before .before .before .before .m2 .given .1, ← c .before .cell-of2 .ensures .0) (c .write-in .ensures)
+returns-3 c given digits solved = rw (c .before .before .before .before .m2 .given .1, ← c .before .cell-of2 .ensures .0) (c .write-in .ensures)
 
 returns-4 : tie.Need-returns-4
 unfolding perform putDigit withNotes
-returns-4 c = rw (c .before .before .before .before .m3 .given .1, ← c .before .cell-of3 .ensures .0) (c .strike-in .ensures)
+returns-4 c given digits solved = rw (c .before .before .before .before .m3 .given .1, ← c .before .cell-of3 .ensures .0) (c .strike-in .ensures)
 
 pub perform-notes-spec : {M : Type 1} → statement M
 perform-notes-spec = tie.close (tie.spec enum-known-m cell-of-requires strike-peers-requires enum-told enum-known-m-2 cell-of-requires-2 write-in-requires enum-known-m-3 cell-of-requires-3 strike-in-requires returns returns-2 returns-3 returns-4)

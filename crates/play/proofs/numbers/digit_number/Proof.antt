@@ -4,7 +4,7 @@ use mathlib.Core.Path.{sym, ap, _∙_}
 use mathlib.Core.Bool.{not}
 use borrow.Author.Tests.{eq-eqb, ne-eqb}
 use Rattle.sudoku.proofs.Walks.{refused, no-if}
-use Rattle.journal.specs.State.{givensOnly, isGiven, digitAt}
+use Rattle.journal.specs.State.{digitAt}
 use Rattle.board.proofs.Numbers.{last-if}
 use borrow.Author.Needs.{needs}
 use Rattle.play.proofs.numbers.digit_number.Statement.{statement}
@@ -14,14 +14,14 @@ is-given-requires : tie.Need-is-given-requires
 is-given-requires c κs = search needs
 
 returns : tie.Need-returns
-unfolding isGiven givensOnly digitAt
+unfolding digitAt
 returns c = sym (refused _ 5 _ (sym (c .before .is-given .ensures) ∙ c .if1 .taken))
 
 in-range-requires : tie.Need-in-range-requires
 in-range-requires c κs = search needs
 
 returns-2 : tie.Need-returns-2
-unfolding isGiven givensOnly digitAt
+unfolding digitAt
 returns-2 c =
     let five = sym (c .before .before .before .is-given .ensures) ∙ c .before .before .if1 .left in
     sym (no-if _ 5 _ five ∙ refused _ 8 _ (ap not (sym (c .before .in-range .ensures)) ∙ c .if2 .taken))
@@ -30,14 +30,14 @@ digit-at-requires : tie.Need-digit-at-requires
 digit-at-requires c κs = search needs
 
 returns-3 : tie.Need-returns-3
-unfolding isGiven givensOnly digitAt
+unfolding digitAt
 returns-3 c =
     let five = sym (c .before .before .before .before .before .is-given .ensures) ∙ c .before .before .before .before .if1 .left in
     let eight = ap not (sym (c .before .before .before .in-range .ensures)) ∙ c .before .before .if2 .left in
     sym (no-if _ 5 _ five ∙ no-if _ 8 _ eight ∙ refused _ 9 _ (eq-eqb _ _ (sym (c .before .digit-at .ensures) ∙ c .if3 .taken)))
 
 returns-4 : tie.Need-returns-4
-unfolding isGiven givensOnly digitAt
+unfolding digitAt
 returns-4 c =
     let five = sym (c .before .before .before .before .before .is-given .ensures) ∙ c .before .before .before .before .if1 .left in
     let eight = ap not (sym (c .before .before .before .in-range .ensures)) ∙ c .before .before .if2 .left in

@@ -3,7 +3,7 @@
 use mathlib.Core.Path.{sym, ap, _∙_}
 use mathlib.Core.Bool.{not}
 use Rattle.sudoku.proofs.Walks.{refused}
-use Rattle.journal.specs.State.{isGiven, holdsPlayersDigit}
+use Rattle.journal.specs.State.{holdsPlayersDigit}
 use Rattle.board.proofs.Numbers.{last-if}
 use borrow.Author.Needs.{needs}
 use Rattle.play.proofs.numbers.held_number.Statement.{statement}
@@ -13,11 +13,11 @@ holds-players-digit-requires : tie.Need-holds-players-digit-requires
 holds-players-digit-requires c κs = search needs
 
 returns : tie.Need-returns
-unfolding holdsPlayersDigit isGiven
+unfolding holdsPlayersDigit
 returns c = sym (refused _ 6 _ (ap not (sym (c .before .holds-players-digit .ensures)) ∙ c .if1 .taken))
 
 returns-2 : tie.Need-returns-2
-unfolding holdsPlayersDigit isGiven
+unfolding holdsPlayersDigit
 returns-2 c = sym (last-if _ 6 (ap not (sym (c .before .holds-players-digit .ensures)) ∙ c .if1 .left))
 
 pub held-number-spec : {M : Type 1} → statement M

@@ -14,7 +14,7 @@ cell-number-requires c κs = search needs
 
 returns : tie.Need-returns
 unfolding moveTests acceptsMarks noteAt
-returns c = two-refuse 3 4 _ _ _ _ (c .before .cell-number .ensures) (c .if1 .taken)
+returns c given = two-refuse 3 4 _ _ _ _ (c .before .cell-number .ensures) (c .if1 .taken)
 
 cell-of-requires : tie.Need-cell-of-requires
 cell-of-requires c κs = search needs
@@ -24,7 +24,7 @@ mark-number-requires c κs = search needs
 
 returns-2 : tie.Need-returns-2
 unfolding moveTests acceptsMarks noteAt
-returns-2 c = rw (c .mark-number .ensures, c .before .cell-of .ensures .0)
+returns-2 c given = rw (c .mark-number .ensures, c .before .cell-of .ensures .0)
     (sym (two-pass 3 4 _ _ _ _ (c .before .before .before .cell-number .ensures) (omega arith) (omega arith) (c .before .before .if1 .left)))
 
 pub write-mark-number-spec : {M : Type 1} → statement M

@@ -2,7 +2,8 @@
 -- Assumes nothing.
 use mathlib.Core.Path.{sym, _∙_}
 use native.Mathlib.Omega.{arith}
-use Rattle.play.specs.Play.{lentBy, lentTests, latestNumber}
+use Rattle.board.specs.Board.{lentTests}
+use Rattle.play.specs.Play.{latestNumber}
 use Rattle.play.proofs.Accepted.{latest-none, latest-part, latest-within, part-latest}
 use borrow.Author.Needs.{needs}
 use Rattle.play.proofs.shown.latest.Statement.{statement}
@@ -21,48 +22,48 @@ part-result-end : tie.Need-part-result-end
 part-result-end c = search needs
 
 returns : tie.Need-returns
-unfolding latestNumber lentTests lentBy
+unfolding latestNumber lentTests
 returns c =
     let a = c .before .before .before .before .args in
     (latest-none (a .board) (a .journal .now) (λ p. c .before .if1 .taken (c .before .before .latest-number .ensures ∙ p)), c .before .before .latest-number .ensures)
 
 mul-end : tie.Need-mul-end
-unfolding latestNumber lentTests lentBy
+unfolding latestNumber lentTests
 mul-end c =
     let a = c .before .before .before .before .args in
     let k = latest-within (a .board) (a .journal .now) (sym (c .before .before .latest-number .ensures) ∙ c .before .if1 .left) in
     omega (arith, k .0, k .1)
 
 sub-start : tie.Need-sub-start
-unfolding latestNumber lentTests lentBy
+unfolding latestNumber lentTests
 sub-start c =
     let a = c .before .before .before .before .args in
     let k = latest-within (a .board) (a .journal .now) (sym (c .before .before .latest-number .ensures) ∙ c .before .if1 .left) in
     omega (arith, k .0, k .1)
 
 sub-result-2 : tie.Need-sub-result-2
-unfolding latestNumber lentTests lentBy
+unfolding latestNumber lentTests
 sub-result-2 c =
     let a = c .before .before .before .before .args in
     let k = latest-within (a .board) (a .journal .now) (sym (c .before .before .latest-number .ensures) ∙ c .before .if1 .left) in
     omega (arith, k .0, k .1)
 
 part-result-start-2 : tie.Need-part-result-start-2
-unfolding latestNumber lentTests lentBy
+unfolding latestNumber lentTests
 part-result-start-2 c =
     let a = c .before .before .before .before .args in
     let k = latest-within (a .board) (a .journal .now) (sym (c .before .before .latest-number .ensures) ∙ c .before .if1 .left) in
     omega (arith, k .0, k .1)
 
 part-result-end-2 : tie.Need-part-result-end-2
-unfolding latestNumber lentTests lentBy
+unfolding latestNumber lentTests
 part-result-end-2 c =
     let a = c .before .before .before .before .args in
     let k = latest-within (a .board) (a .journal .now) (sym (c .before .before .latest-number .ensures) ∙ c .before .if1 .left) in
     omega (arith, k .0, k .1)
 
 returns-2 : tie.Need-returns-2
-unfolding latestNumber lentTests lentBy
+unfolding latestNumber lentTests
 returns-2 c =
     let a = c .before .before .before .before .before .args in
     let p = sym (c .before .before .before .latest-number .ensures) ∙ c .before .before .if1 .left in

@@ -4,8 +4,8 @@ use mathlib.Core.Path.{sym, _∙_}
 use native.Mathlib.Omega.{arith}
 use borrow.Author.Tests.{eq-eqb, ne-eqb}
 use Rattle.sudoku.proofs.Walks.{refused}
+use Rattle.board.specs.Board.{lentTests}
 use Rattle.board.proofs.Numbers.{last-if}
-use Rattle.play.specs.Play.{lentBy, lentNumber}
 use Rattle.play.proofs.Joined.{two-refuse, two-pass}
 use borrow.Author.Needs.{needs}
 use Rattle.play.proofs.shown.latest_number.Statement.{statement}
@@ -15,16 +15,16 @@ lent-number-requires : tie.Need-lent-number-requires
 lent-number-requires c κs = search needs
 
 returns : tie.Need-returns
-unfolding lentNumber lentBy
+unfolding lentTests
 returns c = two-refuse 1 2 _ _ _ _ (c .before .lent-number .ensures .0) (c .if1 .taken)
 
 returns-2 : tie.Need-returns-2
-unfolding lentNumber lentBy
+unfolding lentTests
 returns-2 c = sym (two-pass 1 2 _ _ _ _ (c .before .before .before .lent-number .ensures .0) (omega arith) (omega arith) (c .before .before .if1 .left)
     ∙ refused _ 12 _ (eq-eqb _ _ (c .if2 .taken)))
 
 returns-3 : tie.Need-returns-3
-unfolding lentNumber lentBy
+unfolding lentTests
 returns-3 c = sym (two-pass 1 2 _ _ _ _ (c .before .before .before .lent-number .ensures .0) (omega arith) (omega arith) (c .before .before .if1 .left)
     ∙ last-if _ 12 (ne-eqb _ _ (c .if2 .left)))
 

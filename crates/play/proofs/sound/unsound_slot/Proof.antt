@@ -4,7 +4,7 @@ use mathlib.Core.Path.{sym, ap, _∙_}
 use mathlib.Core.Bool.{not}
 use Rattle.puzzle.proofs.Refusals.{refused-if}
 use Rattle.puzzle.proofs.Accepted.{if-not}
-use Rattle.journal.specs.Slots.{soundFor}
+use Rattle.journal.specs.Slots.{isSound}
 use Rattle.play.specs.Play.{unsoundSlot}
 use borrow.Author.Needs.{needs}
 use Rattle.play.proofs.sound.unsound_slot.Statement.{statement}
@@ -20,15 +20,15 @@ refusal-requires : tie.Need-refusal-requires
 refusal-requires c κs = search needs
 
 returns : tie.Need-returns
-unfolding unsoundSlot soundFor
-returns c = c .refusal .ensures ∙ sym (refused-if _ _ (ap not (sym (c .before .before .is-sound .ensures ∙ ap (soundFor (c .before .before .before .before .before .args .given .now)) (c .before .before .before .slot-at .ensures))) ∙ c .before .if1 .taken))
+unfolding unsoundSlot isSound
+returns c = c .refusal .ensures ∙ sym (refused-if _ _ (ap not (sym (c .before .before .is-sound .ensures ∙ ap (isSound (c .before .before .before .before .before .args .given .now)) (c .before .before .before .slot-at .ensures))) ∙ c .before .if1 .taken))
 
 accepted-requires : tie.Need-accepted-requires
 accepted-requires c κs = search needs
 
 returns-2 : tie.Need-returns-2
-unfolding unsoundSlot soundFor
-returns-2 c = c .accepted .ensures ∙ sym (if-not _ _ (ap not (sym (c .before .before .is-sound .ensures ∙ ap (soundFor (c .before .before .before .before .before .args .given .now)) (c .before .before .before .slot-at .ensures))) ∙ c .before .if1 .left))
+unfolding unsoundSlot isSound
+returns-2 c = c .accepted .ensures ∙ sym (if-not _ _ (ap not (sym (c .before .before .is-sound .ensures ∙ ap (isSound (c .before .before .before .before .before .args .given .now)) (c .before .before .before .slot-at .ensures))) ∙ c .before .if1 .left))
 
 pub unsound-slot-spec : {M : Type 1} → statement M
 unsound-slot-spec =

@@ -1,6 +1,5 @@
 -- `readings::replay::opening` meets its contract.
 -- Assumes nothing.
-use Rattle.journal.specs.State.{givensOnly, isGiven}
 use Rattle.board.specs.Board.{stateOf}
 use Rattle.readings.specs.Reading.{openingOf}
 use borrow.Author.Needs.{needs}
@@ -11,7 +10,7 @@ given-digits-requires : tie.Need-given-digits-requires
 given-digits-requires c κs = search needs
 
 returns : tie.Need-returns
-unfolding openingOf stateOf isGiven givensOnly
+unfolding openingOf stateOf
 returns c = rw (c .before .given-digits .ensures)
 
 pub opening-spec : {M : Type 1} → statement M

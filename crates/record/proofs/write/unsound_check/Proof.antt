@@ -5,7 +5,6 @@ use Rattle.sudoku.proofs.Walks.{not-is-true, not-is-false}
 use Rattle.puzzle.specs.Refusals.{refusal}
 use Rattle.puzzle.proofs.Accepted.{if-not}
 use Rattle.puzzle.proofs.Refusals.{refused-if}
-use Rattle.journal.specs.StoredChecks.{soundCheckFor}
 use Rattle.record.specs.Write.{unsoundCheck}
 use Rattle.record.proofs.write.unsound_check.Statement.{statement}
 use Rattle.record.proofs.write.unsound_check.Tie as tie
@@ -18,7 +17,7 @@ accepted-requires : tie.Need-accepted-requires
 accepted-requires c κs = search needs
 
 returns : tie.Need-returns
-unfolding unsoundCheck soundCheckFor
+unfolding unsoundCheck isSoundCheck
 returns c =
     let sound = c .before .before .is-sound-check .ensures in
     c .accepted .ensures ∙ sym (if-not _ (refusal 14 (c .before .before .before .before .args .n) 1) (not-is-false _ (sym sound ∙ c .before .if1 .taken)))
@@ -27,7 +26,7 @@ refusal-requires : tie.Need-refusal-requires
 refusal-requires c κs = search needs
 
 returns-2 : tie.Need-returns-2
-unfolding unsoundCheck soundCheckFor
+unfolding unsoundCheck isSoundCheck
 returns-2 c =
     let sound = c .before .before .is-sound-check .ensures in
     c .refusal .ensures ∙ sym (refused-if _ (refusal 14 (c .before .before .before .before .args .n) 1) (not-is-true _ (sym sound ∙ c .before .if1 .left)))

@@ -5,7 +5,6 @@ use mathlib.Core.Path.{_≡_, sym, ap, _∙_}
 use native.Mathlib.Omega.{arith}
 use Rattle.puzzle.specs.Refusals.{firstRefused}
 use Rattle.puzzle.proofs.Refusals.{walk-refused, walk-more, walk-all}
-use Rattle.journal.specs.State.{givensOnly}
 use Rattle.record.specs.Write.{unsoundCheck}
 use borrow.Author.Needs.{needs}
 use Rattle.record.proofs.write.unsound_checks.Statement.{statement}
@@ -14,7 +13,7 @@ use Rattle.record.proofs.write.unsound_checks.Tie as tie
 abbrev Inv-loop : tie.InvT-loop
 Inv-loop given checks count n₀ n =
     (1 ≤ n) × (n ≤ count + 1)
-    × (firstRefused (unsoundCheck (givensOnly given) checks) count 1 ≡ firstRefused (unsoundCheck (givensOnly given) checks) (count + 1 - n) n)
+    × (firstRefused (unsoundCheck given checks) count 1 ≡ firstRefused (unsoundCheck given checks) (count + 1 - n) n)
 
 abbrev μ-loop : tie.MeasureT-loop
 μ-loop given checks count n₀ n =
@@ -23,7 +22,7 @@ abbrev μ-loop : tie.MeasureT-loop
 loop-holds : tie.Need-loop-holds Inv-loop μ-loop
 loop-holds c =
     let a = c .before .args in
-    (omega arith, omega arith, ap (λ (k : ℕ). firstRefused (unsoundCheck (givensOnly (a .given .now)) (a .checks .now)) k 1) {x = a .count} {y = a .count + 1 - 1} (omega arith))
+    (omega arith, omega arith, ap (λ (k : ℕ). firstRefused (unsoundCheck (a .given .now) (a .checks .now)) k 1) {x = a .count} {y = a .count + 1 - 1} (omega arith))
 
 unsound-check-requires : tie.Need-unsound-check-requires Inv-loop μ-loop
 unsound-check-requires c κs = search needs
@@ -33,7 +32,7 @@ returns c =
     let a = c .before .before .before .before .before .before .args in
     let turn = c .before .before .before .before .loop in
     let unsound-check = c .before .before .unsound-check in
-    sym (turn .inv .2 ∙ walk-refused (unsoundCheck (givensOnly (a .given .now)) (a .checks .now)) (a .count + 1) (turn .n) (unsound-check .result) (omega arith) (unsound-check .ensures) (c .if1 .taken))
+    sym (turn .inv .2 ∙ walk-refused (unsoundCheck (a .given .now) (a .checks .now)) (a .count + 1) (turn .n) (unsound-check .result) (omega arith) (unsound-check .ensures) (c .if1 .taken))
 
 add-n : tie.Need-add-n Inv-loop μ-loop
 add-n c = search needs
@@ -46,7 +45,7 @@ loop-again c =
     let a = c .before .before .before .before .before .before .args in
     let turn = c .before .before .before .before .loop in
     let unsound-check = c .before .before .unsound-check in
-    (omega arith, omega arith, turn .inv .2 ∙ walk-more (unsoundCheck (givensOnly (a .given .now)) (a .checks .now)) (a .count + 1) (turn .n) (unsound-check .result) (omega arith) (unsound-check .ensures) (c .if1 .left))
+    (omega arith, omega arith, turn .inv .2 ∙ walk-more (unsoundCheck (a .given .now) (a .checks .now)) (a .count + 1) (turn .n) (unsound-check .result) (omega arith) (unsound-check .ensures) (c .if1 .left))
 
 accepted-requires : tie.Need-accepted-requires Inv-loop μ-loop
 accepted-requires c κs = search needs
@@ -55,7 +54,7 @@ returns-2 : tie.Need-returns-2 Inv-loop μ-loop
 returns-2 c =
     let a = c .before .before .before .before .args in
     let turn = c .before .before .loop in
-    c .accepted .ensures ∙ sym (turn .inv .2 ∙ walk-all (unsoundCheck (givensOnly (a .given .now)) (a .checks .now)) (a .count + 1) (turn .n) (omega arith))
+    c .accepted .ensures ∙ sym (turn .inv .2 ∙ walk-all (unsoundCheck (a .given .now) (a .checks .now)) (a .count + 1) (turn .n) (omega arith))
 
 pub unsound-checks-spec : {M : Type 1} → statement M
 unsound-checks-spec =

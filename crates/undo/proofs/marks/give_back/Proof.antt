@@ -7,6 +7,12 @@ use borrow.Author.Needs.{needs}
 use Rattle.undo.proofs.marks.give_back.Statement.{statement}
 use Rattle.undo.proofs.marks.give_back.Tie as tie
 
+struck-cells-requires : tie.Need-struck-cells-requires
+struck-cells-requires c κs = search needs
+
+move-of-requires : tie.Need-move-of-requires
+move-of-requires c κs = search needs
+
 enum-known-m : tie.Need-enum-known-m
 enum-known-m c = search needs
 
@@ -36,24 +42,26 @@ write-lacking-requires c κs = search needs
 
 returns : tie.Need-returns
 unfolding marksLeft marksBack withNotes
-returns c = rw (c .before .before .before .m .given .1) (c .restore .ensures)
+returns c = rw (← c .before .before .before .before .before .before .move-of .ensures, ← c .before .before .before .before .before .before .before .struck-cells .ensures, c .before .before .before .before .m .given .1) (c .restore .ensures .0, λ given digits solved. c .restore .ensures .1)
 
 returns-2 : tie.Need-returns-2
 unfolding marksLeft marksBack withNotes
-returns-2 c = rw (c .enum-told .given .1) (refl, refl)
+returns-2 c = rw (← c .before .before .move-of .ensures, ← c .before .before .before .struck-cells .ensures, c .enum-told .given .1) (refl, λ given digits solved. refl)
 
 returns-3 : tie.Need-returns-3
 unfolding marksLeft marksBack withNotes
-returns-3 c = rw (c .before .before .before .before .m2 .given .1, ← c .before .cell-of .ensures .0) (c .strike-standing .ensures)
+returns-3 c = rw (← c .before .before .before .before .before .before .move-of .ensures, ← c .before .before .before .before .before .before .before .struck-cells .ensures, c .before .before .before .before .m2 .given .1, ← c .before .cell-of .ensures .0) (c .strike-standing .ensures .0, λ given digits solved. c .strike-standing .ensures .1)
 
 returns-4 : tie.Need-returns-4
 unfolding marksLeft marksBack withNotes
-returns-4 c = rw (c .before .before .before .before .m3 .given .1, ← c .before .cell-of2 .ensures .0) (c .write-lacking .ensures)
+returns-4 c = rw (← c .before .before .before .before .before .before .move-of .ensures, ← c .before .before .before .before .before .before .before .struck-cells .ensures, c .before .before .before .before .m3 .given .1, ← c .before .cell-of2 .ensures .0) (c .write-lacking .ensures .0, λ given digits solved. c .write-lacking .ensures .1)
 
 pub give-back-spec : {M : Type 1} → statement M
 give-back-spec =
     tie.close
     (tie.spec
+    struck-cells-requires
+    move-of-requires
     enum-known-m
     restore-requires
     enum-told

@@ -1,9 +1,9 @@
--- `play::checks::is_right` meets its contract, which is the code.
+-- `journal::checks::is_right` meets its contract, which is the code.
 -- Assumes nothing.
 use Rattle.journal.specs.StoredChecks.{isRight}
 use borrow.Author.Needs.{needs}
-use Rattle.play.proofs.checks.is_right.Statement.{statement}
-use Rattle.play.proofs.checks.is_right.Tie as tie
+use Rattle.journal.proofs.checks.is_right.Statement.{statement}
+use Rattle.journal.proofs.checks.is_right.Tie as tie
 
 digit-at-requires : tie.Need-digit-at-requires
 digit-at-requires c κs = search needs
