@@ -52,8 +52,8 @@ unfoldable pub verdictByte : List ℕ → ℕ → ℕ
 verdictByte checks n = getD checks (checkStart n + 5) 0
 
 -- check n, read: what was asked, and the whole of it
-abbrev pub askedIn : List ℕ → ℕ → Asked
-askedIn checks n =
+abbrev pub askedAt : List ℕ → ℕ → Asked
+askedAt checks n =
     let start = checkStart n in
     record {
       standing = two (getD checks start 0) (getD checks (start + 1) 0);
@@ -63,7 +63,7 @@ askedIn checks n =
     }
 
 unfoldable pub storedAt : List ℕ → ℕ → Stored
-storedAt checks n = stored (askedIn checks n) (eqb (verdictByte checks n) 1)
+storedAt checks n = stored (askedAt checks n) (eqb (verdictByte checks n) 1)
 
 -- a stored check is sound when standing is 1 to 1,024, the digit 1 to 9, the verdict 0 or 1, and row and column are on the grid and no given's
 unfoldable pub soundStored : List ℕ → Asked → ℕ → Bool
@@ -72,4 +72,4 @@ soundStored given c verdict =
     (both (both (leb 1 (c .standing)) (leb (c .standing) maxMoves)) (both (inRange (c .digit)) (leb verdict 1)))
 
 unfoldable pub isSoundCheck : List ℕ → List ℕ → ℕ → Bool
-isSoundCheck given checks n = soundStored given (askedIn checks n) (verdictByte checks n)
+isSoundCheck given checks n = soundStored given (askedAt checks n) (verdictByte checks n)

@@ -12,7 +12,7 @@ use Rattle.sudoku.specs.Tests.{Test, _⇒_, first, pick, both}
 use Rattle.sudoku.specs.Grid.{inRange, onGrid, cellOf}
 use Rattle.note.specs.Note.{contains}
 use Rattle.puzzle.specs.declared.Refusal.{Refusal}
-use Rattle.puzzle.specs.Refusals.{refusal, accepted, refusedIf}
+use Rattle.puzzle.specs.Refusals.{refusal, accepted, refusedIf, orElse, firstRefused}
 use Rattle.journal.specs.declared.Move.{Move}
 use Rattle.journal.specs.declared.Move.the-variants.{Place, Erase, WriteMark, StrikeMark}
 use Rattle.journal.specs.declared.Slot.{Slot}
@@ -94,6 +94,11 @@ slotRefusal n slot = refusal n (pick (eqb n 14) slot 0) 0
 -- 14 of slot n: it is unsound
 unfoldable pub unsoundSlot : List ℕ → List ℕ → ℕ → Refusal
 unsoundSlot given journal n = refusedIf (not (isSound given (slotAt journal n))) (refusal 14 n 0)
+
+-- what writing and readings test of a board and its journal: 1; 2; 14 of slots 1 to made, place naming the first
+unfoldable pub journalRefusal : Bool → Board → List ℕ → Refusal
+journalRefusal fits b journal =
+    orElse (refusal (first (lentTests fits b [])) 0 0) (firstRefused (unsoundSlot (b .given) journal) (b .made) 1)
 
 -- the slot is sound, and what it changed stands as the move left it
 unfoldable pub canTakeBack : State → Slot → Bool

@@ -17,7 +17,7 @@ use Rattle.journal.specs.State.{State, performAgain}
 use Rattle.journal.specs.Slots.{slotAt, moveOf}
 use Rattle.board.specs.declared.Board.{Board}
 use Rattle.board.specs.Board.{stateOf, isBoard}
-use Rattle.play.specs.Play.{unsoundSlot}
+use Rattle.play.specs.Play.{journalRefusal}
 use Rattle.readings.specs.declared.Reading.{Reading}
 
 -- the board's givens and empty notes
@@ -43,10 +43,8 @@ stateAfter b journal k = run (applySlot journal) (openingOf b) k 1
 -- 1; 2; 14 for any of the slots 1 to made, place naming the first; 35 A reading's k is 0 or above made
 unfoldable pub readingRefusal : Board → List ℕ → ℕ → Refusal
 readingRefusal b journal k =
-    orElse (refusedIf (not (eqb (length journal) journalBytes)) (refusal 1 0 0))
-    (orElse (refusedIf (not (isBoard b)) (refusal 2 0 0))
-    (orElse (firstRefused (unsoundSlot (b .given) journal) (b .made) 1)
-    (refusedIf (not (both (leb 1 k) (leb k (b .made)))) (refusal 35 0 0))))
+    orElse (journalRefusal (eqb (length journal) journalBytes) b journal)
+    (refusedIf (not (both (leb 1 k) (leb k (b .made)))) (refusal 35 0 0))
 
 -- the reading of move k: undone when k is above standing
 unfoldable pub reading : Board → List ℕ → ℕ → Reading

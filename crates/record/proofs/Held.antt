@@ -18,12 +18,12 @@ use Rattle.puzzle.proofs.Accepted.{accepts, if-not, first-of}
 use Rattle.journal.specs.declared.Slot.{Slot}
 use Rattle.journal.specs.Limits.{maxMoves, slotBytes, checkBytes}
 use Rattle.journal.specs.State.{State}
-use Rattle.journal.specs.Slots.{slotAt, moveOf, isSound}
-use Rattle.journal.specs.StoredChecks.{Stored, storedAll, storedAt, verdictByte, isSoundCheck}
+use Rattle.journal.specs.Slots.{slotAt, moveOf, isFree, isSound}
+use Rattle.journal.specs.StoredChecks.{Stored, storedAll, storedAt, verdictByte, isSoundCheck, askedAt, soundStored}
 use Rattle.journal.proofs.Memory.{slotsBytes, slot-listed, stored-listed, verdict-listed}
 use Rattle.play.specs.Play.{unsoundSlot}
-use Rattle.record.specs.declared.Asked.{Asked}
-use Rattle.record.specs.Write.{movesOf, askedAt, askedOf, unsoundCheck}
+use Rattle.journal.specs.declared.Asked.{Asked}
+use Rattle.record.specs.Write.{movesOf, askedOf, unsoundCheck}
 
 -- ---- a list read entry by entry
 
@@ -105,10 +105,11 @@ pub record CheckSound (s : State) (c : Stored) : Type 0 where
 -- the test of a check that was read
 check-sound : (s : State) (checks : List ℕ) (n : ℕ) (c : Stored) → storedAt checks n ≡ c → verdictByte checks n ≡ bit (c .right) → CheckSound s c
     → isSoundCheck (s .given) checks n ≡ true
-unfolding isSoundCheck
+unfolding isSoundCheck soundStored isFree storedAt
 check-sound s checks n c e v w =
-    rw (e, v)
-    (both-true _ _ (both-true _ _ (w .grid) (ap not (w .free)))
+    ap (λ (x : Stored). soundStored (s .given) (askedIn x) (verdictByte checks n)) e
+    ∙ ap (soundStored (s .given) (askedIn c)) v
+    ∙ (both-true _ _ (both-true _ _ (w .grid) (ap not (w .free)))
     (both-true _ _ (both-true _ _ (le-leb 1 (c .standing) (w .some)) (le-leb (c .standing) maxMoves (w .in-time)))
     (both-true _ _ (w .range) (le-leb (bit (c .right)) 1 (bit-le (c .right))))))
 
@@ -126,7 +127,7 @@ module _ (checks : List ℕ) (stored : List Stored) (n : ℕ) (many : length sto
 
   -- writing reads what was asked
   pub asked-held : askedOf checks n ≡ map askedIn stored
-  unfolding askedOf askedAt
+  unfolding askedOf storedAt
   asked-held =
       ap (λ (k : ℕ). listed (askedAt checks) k 1) (sym many)
       ∙ listed-map askedIn (storedAt checks) noCheck stored 1 (λ k u. stored-held k (omega arith))

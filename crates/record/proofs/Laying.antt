@@ -17,14 +17,14 @@ use Rattle.puzzle.specs.declared.Given.{Given as Setters}
 use Rattle.journal.specs.declared.Move.{Move}
 use Rattle.journal.specs.Bytes.{low, second, over}
 use Rattle.journal.specs.Slots.{slotAt, moveOf}
-use Rattle.journal.specs.StoredChecks.{checkStart, storedAt}
+use Rattle.journal.specs.StoredChecks.{checkStart, storedAt, askedAt}
 use Rattle.journal.proofs.Memory.{low-two, second-two, over-nil, over-join, length-over}
 use Rattle.board.specs.declared.Board.{Board}
 use Rattle.board.specs.Board.{stateOf}
 use Rattle.record.specs.declared.Item.{Item}
 use Rattle.record.specs.declared.Item.the-variants.{Played}
 use Rattle.record.specs.Items.{encode, encodeAll, givenItem, checkItem, recordOf}
-use Rattle.record.specs.Write.{givensFrom, givensOf, movesOf, askedAt, askedOf, partsOf}
+use Rattle.record.specs.Write.{givensFrom, givensOf, movesOf, askedOf, partsOf}
 use Rattle.record.specs.Laying.{givenBytes, givensBytes, movesBytes, checksBytes}
 use Rattle.record.proofs.Lengths.{length-moves, record-joined, record-length}
 
@@ -158,7 +158,7 @@ module _ (b : Board) (journal checks : List ℕ) where
 module _ (checks : List ℕ) (n start : ℕ) (here : start ≡ checkStart n) (small : (i : ℕ) → getD checks i 0 < 256) where
   pub check-bytes : (a b c d e : ℕ) → a ≡ getD checks start 0 → b ≡ getD checks (start + 1) 0 → c ≡ getD checks (start + 2) 0
       → d ≡ getD checks (start + 3) 0 → e ≡ getD checks (start + 4) 0 → 7 ∷ a ∷ b ∷ c ∷ d ∷ e ∷ [] ≡ encode (checkItem (askedAt checks n))
-  unfolding encode checkItem askedAt storedAt
+  unfolding encode checkItem storedAt
   check-bytes a b c d e p q r s t =
       let x = getD checks (checkStart n) 0 in
       let y = getD checks (checkStart n + 1) 0 in

@@ -11,7 +11,7 @@ use Rattle.journal.specs.declared.Move.the-variants.{Place, Erase, WriteMark, S
 use Rattle.journal.specs.Limits.{maxMoves, maxChecks, recordBytes}
 use Rattle.record.specs.declared.Item.{Item}
 use Rattle.record.specs.declared.Item.the-variants.{Given, Played, Undone, Check}
-use Rattle.record.specs.declared.Asked.{Asked}
+use Rattle.journal.specs.declared.Asked.{Asked}
 use Rattle.record.specs.Items.{Parts, encode, encodeAll, givenItem, checkItem, recordOf}
 use Rattle.record.proofs.ReadBack.{items-grouped}
 

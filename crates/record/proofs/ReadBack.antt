@@ -15,7 +15,7 @@ use Rattle.journal.specs.declared.Move.the-variants.{Place, Erase, WriteMark, S
 use Rattle.journal.proofs.Memory.{two-bytes}
 use Rattle.record.specs.declared.Item.{Item}
 use Rattle.record.specs.declared.Item.the-variants.{Given, Played, Undone, Check}
-use Rattle.record.specs.declared.Asked.{Asked}
+use Rattle.journal.specs.declared.Asked.{Asked}
 use Rattle.record.specs.Items.{Parts, encode, encodeAll, givenItem, checkItem, itemsOf, recordOf}
 use Rattle.record.specs.Scan.{Items, ended, then, takeItem, byKind, body2, body3, body5, goOn, itemsIn, itemsOfBytes, reached, mayStand, scan, malformed, add, noParts, partsIn, partsOfBytes}
 use Rattle.sudoku.proofs.Each.{Each, each-append, each-all, each-map}

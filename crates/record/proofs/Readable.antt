@@ -16,7 +16,7 @@ use Rattle.puzzle.specs.Givens.{ascending}
 use Rattle.puzzle.proofs.Accepted.{accepts, if-not, if-passed, or-else-of, or-else-left, or-else-right, or-else-parts}
 use Rattle.puzzle.proofs.Posed.{Vouched, vouched, vouches}
 use Rattle.journal.specs.Limits.{maxMoves, maxChecks}
-use Rattle.record.specs.declared.Asked.{Asked}
+use Rattle.journal.specs.declared.Asked.{Asked}
 use Rattle.record.specs.Items.{Parts}
 use Rattle.record.specs.Scan.{Items, ended, cut, then, takeItem, byKind, body2, body3, body5, goOn, itemsIn, itemsOfBytes, reached, mayStand, scan, malformed, partsOfBytes}
 use Rattle.record.specs.Reopen.{anyLate, oversized, miscounted, unreadable}

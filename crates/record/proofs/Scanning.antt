@@ -19,7 +19,7 @@ use Rattle.puzzle.specs.Refusals.{refusal, accepted, isAccepted}
 use Rattle.journal.specs.declared.Move.the-variants.{Place, Erase, WriteMark, StrikeMark}
 use Rattle.journal.specs.Limits.{maxMoves}
 use Rattle.journal.specs.Bytes.{two}
-use Rattle.record.specs.declared.Asked.{Asked}
+use Rattle.journal.specs.declared.Asked.{Asked}
 use Rattle.record.specs.declared.Item.{Item}
 use Rattle.record.specs.declared.Item.the-variants.{Given, Played, Undone, Check}
 use Rattle.record.specs.declared.Progress.{Progress}

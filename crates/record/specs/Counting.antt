@@ -12,7 +12,7 @@ use Rattle.journal.specs.declared.Move.{Move}
 use Rattle.journal.specs.Limits.{maxMoves, maxChecks}
 use Rattle.journal.specs.Bytes.{two}
 use Rattle.journal.specs.Slots.{moveOf}
-use Rattle.record.specs.declared.Asked.{Asked}
+use Rattle.journal.specs.declared.Asked.{Asked}
 use Rattle.record.specs.declared.Group.{Group}
 use Rattle.record.specs.declared.Group.the-variants.{Givens, Moves, Count, Checks, Malformed}
 use Rattle.record.specs.declared.Item.{Item}

@@ -16,13 +16,12 @@ use Rattle.puzzle.specs.Vouch.{vouch}
 use Rattle.journal.specs.declared.Move.{Move}
 use Rattle.journal.specs.Limits.{maxMoves, maxChecks}
 use Rattle.journal.specs.Bytes.{over}
-use Rattle.journal.specs.State.{State}
 use Rattle.board.specs.declared.Board.{Board}
 use Rattle.board.specs.Board.{stateOf, countsOf, boardOf, fresh}
 use Rattle.board.specs.Open.{Opened, answer, noMoves, noChecks, lentLengths, wrongLength, turnedAway}
 use Rattle.play.specs.Play.{Played, played, moveTests, recordMove, undoOf}
-use Rattle.journal.specs.StoredChecks.{Stored, isRight, judge, storedAll}
-use Rattle.record.specs.declared.Asked.{Asked}
+use Rattle.journal.specs.StoredChecks.{isRight, judged, storedAll}
+use Rattle.journal.specs.declared.Asked.{Asked}
 use Rattle.record.specs.Items.{Parts}
 use Rattle.record.specs.Scan.{malformed, partsOfBytes}
 
@@ -85,10 +84,6 @@ checkRefusal b cells k c =
 unfoldable pub checksRefusal : Board → ℕ → ℕ → List Asked → Refusal
 checksRefusal b cells k [] = accepted
 checksRefusal b cells k (c ∷ cs) = orElse (checkRefusal b cells k c) (checksRefusal b cells (suc k) cs)
-
--- a check of the record with its verdict
-unfoldable pub judged : List ℕ → Asked → Stored
-judged solution c = judge solution (c .standing) (c .row) (c .column) (c .digit)
 
 -- success leaves slots 1 to made, the stored checks, zero beyond
 unfoldable pub reopened : Board → List ℕ → List Asked → Opened

@@ -14,7 +14,7 @@ use Rattle.journal.specs.declared.Move.the-variants.{Place, Erase, WriteMark, S
 use Rattle.journal.specs.Bytes.{two}
 use Rattle.record.specs.declared.Item.{Item}
 use Rattle.record.specs.declared.Item.the-variants.{Given, Played, Undone, Check}
-use Rattle.record.specs.declared.Asked.{Asked}
+use Rattle.journal.specs.declared.Asked.{Asked}
 use Rattle.record.specs.Items.{Parts}
 
 -- what stands first in some bytes: an item and the bytes after it, or no whole item

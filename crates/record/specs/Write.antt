@@ -14,13 +14,11 @@ use Rattle.puzzle.specs.Givens.{given, isSet}
 use Rattle.journal.specs.declared.Move.{Move}
 use Rattle.journal.specs.Limits.{journalBytes, checkMemory}
 use Rattle.journal.specs.Bytes.{over}
-use Rattle.journal.specs.State.{State}
 use Rattle.journal.specs.Slots.{slotAt, moveOf}
-use Rattle.journal.specs.StoredChecks.{storedAt, isSoundCheck}
+use Rattle.journal.specs.StoredChecks.{askedAt, isSoundCheck}
 use Rattle.board.specs.declared.Board.{Board}
-use Rattle.board.specs.Board.{stateOf, isBoard}
-use Rattle.play.specs.Play.{unsoundSlot}
-use Rattle.record.specs.declared.Asked.{Asked}
+use Rattle.play.specs.Play.{journalRefusal}
+use Rattle.journal.specs.declared.Asked.{Asked}
 use Rattle.record.specs.declared.Written.{Written}
 use Rattle.record.specs.Items.{Parts, recordOf}
 
@@ -37,12 +35,7 @@ givensOf b = givensFrom b 81 1
 unfoldable pub movesOf : List ℕ → ℕ → List Move
 movesOf journal made = listed (λ n. moveOf (slotAt journal n)) made 1
 
--- a stored check as the record holds it
-unfoldable pub askedAt : List ℕ → ℕ → Asked
-askedAt checks n =
-    let c = storedAt checks n in
-    record { standing = c .standing; row = c .row; column = c .column; digit = c .digit }
-
+-- what the stored checks asked
 unfoldable pub askedOf : List ℕ → ℕ → List Asked
 askedOf checks count = listed (askedAt checks) count 1
 
@@ -57,24 +50,20 @@ partsOf b journal checks =
     }
 
 -- 14 of check n, with inner 1
-unfoldable pub unsoundCheck : State → List ℕ → ℕ → Refusal
-unsoundCheck (s .given) checks n = refusedIf (not (isSoundCheck (s .given) checks n)) (refusal 14 n 1)
+unfoldable pub unsoundCheck : List ℕ → List ℕ → ℕ → Refusal
+unsoundCheck given checks n = refusedIf (not (isSoundCheck given checks n)) (refusal 14 n 1)
 
 -- 1; 2; 14 for slots 1 to made, then for the stored checks
 unfoldable pub unwritable : Board → List ℕ → List ℕ → Refusal
 unwritable b journal checks =
-    orElse (refusedIf (not (both (eqb (length journal) journalBytes) (eqb (length checks) checkMemory))) (refusal 1 0 0))
-    (orElse (refusedIf (not (isBoard b)) (refusal 2 0 0))
-    (orElse (firstRefused (unsoundSlot (b .given) journal) (b .made) 1) (firstRefused (unsoundCheck (b .given) checks) (b .checks) 1)))
+    orElse (journalRefusal (both (eqb (length journal) journalBytes) (eqb (length checks) checkMemory)) b journal)
+    (firstRefused (unsoundCheck (b .given) checks) (b .checks) 1)
 
 -- the same, and 34 Output shorter than the record
 unfoldable pub writeRefusal : Board → List ℕ → List ℕ → List ℕ → Refusal
 writeRefusal b journal checks output =
-    orElse (refusedIf (not (both (eqb (length journal) journalBytes) (eqb (length checks) checkMemory))) (refusal 1 0 0))
-    (orElse (refusedIf (not (isBoard b)) (refusal 2 0 0))
-    (orElse (firstRefused (unsoundSlot (b .given) journal) (b .made) 1)
-    (orElse (firstRefused (unsoundCheck (b .given) checks) (b .checks) 1)
-    (refusedIf (ltb (length output) (length (recordOf (partsOf b journal checks)))) (refusal 34 0 0)))))
+    orElse (unwritable b journal checks)
+    (refusedIf (ltb (length output) (length (recordOf (partsOf b journal checks)))) (refusal 34 0 0))
 
 -- what writing answers, and the output afterwards: on success bytes beyond the record stay, after a refusal every byte
 pub record Wrote : Type 0 where

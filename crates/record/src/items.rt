@@ -1,5 +1,5 @@
 // Items: what a kind byte decides, and what stands at an offset of a record's bytes.
-use crate::Asked;
+use journal::Asked;
 use crate::Group;
 use crate::Item;
 use crate::Read;

@@ -6,6 +6,13 @@ pub mod items;
 pub mod scan;
 pub mod write;
 
+// Bytes of the items of a record, the kind byte among them: of a given and of a move with a digit, of an erase, of the undone count, of a check.
+pub const GIVEN_ITEM: usize = 4;
+pub const MOVE_ITEM: usize = 4;
+pub const ERASE_ITEM: usize = 3;
+pub const UNDONE_ITEM: usize = 3;
+pub const CHECK_ITEM: usize = 6;
+
 // An item of the record.
 pub enum Item {
     Given {
@@ -21,14 +28,6 @@ pub enum Item {
         column: u8,
         digit: u8,
     },
-}
-
-// A check as the record holds it: how many moves stood, the cell, and the digit that was asked about.
-pub struct Asked {
-    pub standing: usize,
-    pub row: u8,
-    pub column: u8,
-    pub digit: u8,
 }
 
 // What writing answers: the record's length in bytes; 0 beside a refusal.

@@ -1,16 +1,27 @@
 // Writing a record: 1, 2 and 14, the record's length against the output's (34), then its items laid into the output one after the other.
+use crate::CHECK_ITEM;
+use crate::ERASE_ITEM;
+use crate::GIVEN_ITEM;
+use crate::MOVE_ITEM;
+use crate::UNDONE_ITEM;
 use crate::Written;
 use board::Board;
-use board::value::is_board;
+use journal::CHECK;
 use journal::CHECK_BYTES;
 use journal::CHECK_MEMORY;
+use journal::ERASE;
+use journal::GIVEN;
 use journal::JOURNAL_BYTES;
 use journal::Move;
+use journal::PLACE;
+use journal::STRIKE_MARK;
+use journal::UNDONE;
+use journal::WRITE_MARK;
 use journal::checks::is_sound_check;
 use journal::slots::is_given;
 use journal::slots::move_of;
 use journal::slots::slot_at;
-use play::sound::first_unsound;
+use play::sound::journal_refusal;
 use puzzle::Refusal;
 use puzzle::answer::accepted;
 use puzzle::answer::refusal;
@@ -24,6 +35,7 @@ ghost use mathlib.Core.Path.{_≡_};
 ghost use mathlib.Core.List.{[], _∷_};
 ghost use Prim.Native.Nat.{_+_, _*_, _≤_};
 ghost use lib.ListN.{length};
+ghost use Rattle.journal.specs.StoredChecks.{askedAt};
 ghost use Rattle.puzzle.specs.Givens.{isSet};
 ghost use Rattle.sudoku.specs.Tests.{count as countOf};
 ghost use Rattle.puzzle.specs.Refusals.{firstRefused};
@@ -31,7 +43,7 @@ ghost use Rattle.journal.specs.Limits.{maxMoves, maxChecks};
 ghost use Rattle.journal.specs.Bytes.{over};
 ghost use Rattle.record.specs.declared.Item.the-variants.{Played};
 ghost use Rattle.record.specs.Items.{encode, checkItem, recordOf};
-ghost use Rattle.record.specs.Write.{partsOf, askedAt, unsoundCheck as unsoundCheckOf, unwritable as unwritableOf, writeOf};
+ghost use Rattle.record.specs.Write.{partsOf, unsoundCheck as unsoundCheckOf, unwritable as unwritableOf, writeOf};
 ghost use Rattle.record.specs.Laying.{givenBytes, givensBytes, movesBytes, checksBytes};
 
 // 14 of stored check n, with inner 1.
@@ -64,16 +76,8 @@ fn unsound_checks(given: &[u8; 81], checks: &[u8], count: usize) -> Refusal
 fn unwritable(board: Board, journal: &[u8], checks: &[u8]) -> Refusal
     ensures { λ r. ⌜ (r ≡ unwritableOf board (now (journal .entry)) (now (checks .entry))) × (r .number ≡ 0 → (board .made ≤ maxMoves) × (board .standing ≤ board .made) × (board .checks ≤ maxChecks)) ⌝ }
 {
-    if journal.len() != JOURNAL_BYTES {
-        return refusal(1, 0, 0);
-    }
-    if checks.len() != CHECK_MEMORY {
-        return refusal(1, 0, 0);
-    }
-    if !is_board(board) {
-        return refusal(2, 0, 0);
-    }
-    let r = first_unsound(&board.given, journal, board.made);
+    let fits = (journal.len() == JOURNAL_BYTES) & (checks.len() == CHECK_MEMORY);
+    let r = journal_refusal(board, fits, journal);
     if r.number != 0 {
         return r;
     }
@@ -104,18 +108,18 @@ pub fn move_length(m: Move) -> usize
             row: _,
             column: _,
             digit: _,
-        } => 4,
-        Move::Erase { row: _, column: _ } => 3,
+        } => MOVE_ITEM,
+        Move::Erase { row: _, column: _ } => ERASE_ITEM,
         Move::WriteMark {
             row: _,
             column: _,
             digit: _,
-        } => 4,
+        } => MOVE_ITEM,
         Move::StrikeMark {
             row: _,
             column: _,
             digit: _,
-        } => 4,
+        } => MOVE_ITEM,
     }
 }
 
@@ -138,7 +142,10 @@ fn record_length(board: Board, journal: &[u8], checks: &[u8]) -> usize
     requires { ⌜ (board .made ≤ maxMoves) × (board .checks ≤ maxChecks) ⌝ }
     ensures { λ r. ⌜ r ≡ length (recordOf (partsOf board (now (journal .entry)) (now (checks .entry)))) ⌝ }
 {
-    4 * count_givens(&board.given) + moves_length(journal, board.made) + 3 + 6 * board.checks
+    GIVEN_ITEM * count_givens(&board.given)
+        + moves_length(journal, board.made)
+        + UNDONE_ITEM
+        + CHECK_ITEM * board.checks
 }
 
 // Three bytes at an offset; answers where they end.
@@ -180,7 +187,7 @@ fn lay_given<'a>(
     }
     let row = row_of(cell) as u8;
     let column = column_of(cell) as u8;
-    lay_four(output, at, 1, row, column, digit_at(digits, cell))
+    lay_four(output, at, GIVEN, row, column, digit_at(digits, cell))
 }
 
 // The items of the givens, in the order of their cells.
@@ -203,10 +210,10 @@ fn lay_move(m: Move, output: &mut [u8], at: usize) -> usize
     ensures { λ r. ⌜ (r ≡ at + length (encode (Played m))) × (now (output .exit) ≡ over (now (output .entry)) at (encode (Played m))) ⌝ }
 {
     match m {
-        Move::Place { row, column, digit } => lay_four(output, at, 2, row, column, digit),
-        Move::Erase { row, column } => lay_three(output, at, 3, row, column),
-        Move::WriteMark { row, column, digit } => lay_four(output, at, 4, row, column, digit),
-        Move::StrikeMark { row, column, digit } => lay_four(output, at, 5, row, column, digit),
+        Move::Place { row, column, digit } => lay_four(output, at, PLACE, row, column, digit),
+        Move::Erase { row, column } => lay_three(output, at, ERASE, row, column),
+        Move::WriteMark { row, column, digit } => lay_four(output, at, WRITE_MARK, row, column, digit),
+        Move::StrikeMark { row, column, digit } => lay_four(output, at, STRIKE_MARK, row, column, digit),
     }
 }
 
@@ -235,7 +242,7 @@ fn lay_check(checks: &[u8], n: usize, output: &mut [u8], at: usize) -> usize
     let row = byte_at(checks, start + 2);
     let column = byte_at(checks, start + 3);
     let digit = byte_at(checks, start + 4);
-    let body = lay_three(output, at, 7, low, second);
+    let body = lay_three(output, at, CHECK, low, second);
     lay_three(output, body, row, column, digit)
 }
 
@@ -264,7 +271,7 @@ fn lay_record(board: Board, journal: &[u8], checks: &[u8], output: &mut [u8])
     let asked = lay_three(
         output,
         count,
-        6,
+        UNDONE,
         (undone % 256) as u8,
         (undone / 256 % 256) as u8,
     );

@@ -26,7 +26,7 @@ use Rattle.journal.proofs.Memory.{stored-length, length-stored}
 use Rattle.journal.proofs.Stores.{laid-over}
 use Rattle.board.specs.declared.Board.{Board}
 use Rattle.board.specs.Board.{stateOf}
-use Rattle.record.specs.declared.Asked.{Asked}
+use Rattle.journal.specs.declared.Asked.{Asked}
 use Rattle.record.specs.Counting.{askedFrom}
 use Rattle.record.specs.Reopen.{toPlay, checkRefusal, checksRefusal, judged}
 use Rattle.reopen.specs.Reopening.{asksAt, checkNumber}

@@ -13,7 +13,7 @@ use Rattle.journal.specs.declared.Move.{Move}
 use Rattle.journal.specs.declared.Move.the-variants.{Place, Erase, WriteMark, StrikeMark}
 use Rattle.journal.specs.Slots.{moveOf}
 use Rattle.journal.proofs.Memory.{two-bytes}
-use Rattle.record.specs.declared.Asked.{Asked}
+use Rattle.journal.specs.declared.Asked.{Asked}
 use Rattle.record.specs.declared.Item.the-variants.{Played, Undone}
 use Rattle.record.specs.Items.{Parts, encode, encodeAll, givenItem, checkItem, recordOf}
 use Rattle.record.specs.Counting.{moveAt, askedFrom}

@@ -28,7 +28,7 @@ use Rattle.board.specs.Open.{answer, Opened, Gives, noMoves, noChecks, lentLeng
 use Rattle.play.specs.Play.{Played, slotRefusal, undoTests, undone, undoOf}
 use Rattle.journal.specs.Slots.{slotAt, moveOf}
 use Rattle.journal.proofs.Moves.{given-kept-back}
-use Rattle.record.specs.declared.Asked.{Asked}
+use Rattle.journal.specs.declared.Asked.{Asked}
 use Rattle.record.specs.declared.Scanned.{Scanned}
 use Rattle.record.specs.Items.{Parts, recordOf}
 use Rattle.record.specs.Scan.{malformed, partsOfBytes}

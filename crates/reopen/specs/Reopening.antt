@@ -18,7 +18,7 @@ use Rattle.board.specs.declared.Board.{Board}
 use Rattle.board.specs.Board.{stateOf}
 use Rattle.board.specs.Open.{Opened, Gives, turnedAway}
 use Rattle.play.specs.Play.{Played, played, moveTests, recordMove}
-use Rattle.record.specs.declared.Asked.{Asked}
+use Rattle.journal.specs.declared.Asked.{Asked}
 use Rattle.record.specs.declared.Item.the-variants.{Played as PlayedItem}
 use Rattle.record.specs.Items.{encode}
 use Rattle.record.specs.Scan.{partsOfBytes}

@@ -22,7 +22,7 @@ use puzzle::Layout;
 use puzzle::Refusal;
 use puzzle::answer::accepted;
 use puzzle::answer::refusal;
-use record::Asked;
+use journal::Asked;
 use record::items::asked_at;
 use record::items::move_at;
 use record::scan::read_record;

@@ -7,7 +7,7 @@ use native.Mathlib.Omega.{arith}
 use Rattle.journal.specs.Bytes.{over}
 use Rattle.journal.specs.StoredChecks.{storedBytes}
 use Rattle.journal.proofs.Memory.{stored-length}
-use Rattle.record.specs.declared.Asked.{Asked}
+use Rattle.journal.specs.declared.Asked.{Asked}
 use Rattle.record.specs.Counting.{askedFrom}
 use Rattle.record.specs.Reopen.{toPlay, checksRefusal, judged}
 use Rattle.record.proofs.Laying.{Laying, laying-start, laying-more, laying-end}

@@ -4,9 +4,9 @@ use Prim.Native.Nat.{_≤_, _+_, _-_}
 use mathlib.Core.Path.{sym, ap, _∙_}
 use native.Mathlib.Omega.{arith}
 use lib.ListN.{length}
+use Rattle.journal.specs.StoredChecks.{askedAt}
 use Rattle.journal.specs.Bytes.{over}
 use Rattle.record.specs.Items.{encode, checkItem}
-use Rattle.record.specs.Write.{askedAt}
 use Rattle.record.proofs.Laying.{Laying, laying-start, laying-room, laying-more, laying-end, itemsLeft, items-turn, items-none, checks-left}
 use borrow.Author.Needs.{needs}
 use Rattle.record.proofs.write.lay_checks.Statement.{statement}
