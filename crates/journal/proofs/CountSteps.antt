@@ -53,26 +53,6 @@ module _ (c : Counts) where
   unfolding retaken
   retaken-one h = pick-false (leb (c .made) (c .standing)) c (counts (c .made) (c .standing + 1)) (lt-leb (c .made) (c .standing) h)
 
--- a move taken back and retaken, or retaken and taken back, leaves the counts as they were
-pub retaken-taken-back : (c : Counts) → 1 ≤ c .standing → c .standing ≤ c .made → retaken (takenBack c) ≡ c
-retaken-taken-back c h u =
-    ap retaken (taken-back-one c h)
-    ∙ retaken-one (counts (c .made) (c .standing - 1)) (omega arith)
-    ∙ ap (λ (n : ℕ). counts (c .made) n) {x = c .standing - 1 + 1} {y = c .standing} (omega arith)
-
-pub taken-back-retaken : (c : Counts) → c .standing < c .made → takenBack (retaken c) ≡ c
-taken-back-retaken c h =
-    ap takenBack (retaken-one c h)
-    ∙ taken-back-one (counts (c .made) (c .standing + 1)) (omega arith)
-    ∙ ap (λ (n : ℕ). counts (c .made) n) {x = c .standing + 1 - 1} {y = c .standing} (omega arith)
-
--- a move recorded and taken back leaves what stood, with one more move made
-pub taken-back-recorded : (c : Counts) → c .standing < maxMoves → c .standing ≤ c .made → takenBack (recorded c) ≡ counts (c .standing + 1) (c .standing)
-taken-back-recorded c h u =
-    ap takenBack (recorded-one c h u)
-    ∙ taken-back-one (counts (c .standing + 1) (c .standing + 1)) (omega arith)
-    ∙ ap (λ (n : ℕ). counts (c .standing + 1) n) {x = c .standing + 1 - 1} {y = c .standing} (omega arith)
-
 -- each step keeps the bounds
 module _ (c : Counts) (s : Sound c) where
   pub sound-recorded : Sound (recorded c)

@@ -9,7 +9,7 @@ use native.Mathlib.Omega.{arith}
 use borrow.Author.Tests.{leb-true, leb-false}
 use lib.Dec.{eqb, leb}
 use lib.ListN.{length, getD, take, drop, length-append, length-take, length-drop, take-append-drop, List·getD-append}
-use lib.Seq.{length-take-le, getD-take, getD-drop, getD-append-add, take-at, drop-at, take-append-le, take-take, take-add, drop-drop, ext-getD}
+use lib.Seq.{length-take-le, getD-take, getD-drop, getD-append-add, take-at, drop-at, take-append-le, take-take, drop-drop, ext-getD}
 use Rattle.sudoku.specs.Tests.{bit}
 use Rattle.sudoku.proofs.Walks.{by-test}
 use Rattle.journal.specs.declared.Slot.{Slot}
@@ -49,18 +49,6 @@ module _ (a b : ℕ) (p : a < 256) (q : b < 256) where
     pub third-three : third (three a b c) ≡ c
     unfolding third three
     third-three = omega arith
-
-pub low-byte : (x : ℕ) → low x < 256
-unfolding low
-low-byte x = omega arith
-
-pub second-byte : (x : ℕ) → second x < 256
-unfolding second
-second-byte x = omega arith
-
-pub third-byte : (x : ℕ) → third x < 256
-unfolding third
-third-byte x = omega arith
 
 -- ---- bytes laid over memory
 
@@ -158,15 +146,6 @@ module _ (l : List ℕ) (start : ℕ) (bytes : List ℕ) (fits : start + length 
     where
       ends : start + length bytes + length more ≡ start + length (bytes ++ more)
       ends = omega (arith, length-append bytes more)
-
--- a part laid over its own place changes nothing
-pub over-part : (l : List ℕ) (start n : ℕ) → start + n ≤ length l → over l start (part l start n) ≡ l
-unfolding over part
-over-part l start n h =
-    (λ j. sym (take-add start n l) j ++ drop (start + full j) l) ∙ take-append-drop (start + n) l
-  where
-    full : length (take n (drop start l)) ≡ n
-    full = length-take-le n (drop start l) (omega (arith, length-drop start l))
 
 -- two memories of one length that agree at a part have the same part
 pub part-same : (l k : List ℕ) (start n : ℕ) → length l ≡ length k → ((i : ℕ) → i < n → getD l (start + i) 0 ≡ getD k (start + i) 0)
@@ -274,18 +253,6 @@ slot-written journal n slot fits small =
     slot-read (over journal (slotBytes * n) (bytesOf slot)) (n + 1) slot small
     (slot-byte-written journal n (bytesOf slot) (bytes-length slot) fits)
 
--- slots 1 to n are read from the first n slots' bytes alone
-pub slot-take : (journal : List ℕ) (n k : ℕ) → 1 ≤ k → k ≤ n → slotAt (take (slotBytes * n) journal) k ≡ slotAt journal k
-unfolding slotStart
-slot-take journal n k f t =
-    slot-same (take (slotBytes * n) journal) journal k (λ i u. getD-take (slotBytes * n) journal (slotBytes * (k - 1) + i) 0 (omega arith))
-
--- so two journals whose first n slots agree have the same slots 1 to n
-pub slot-agree : (journal other : List ℕ) (n k : ℕ) → take (slotBytes * n) journal ≡ take (slotBytes * n) other → 1 ≤ k → k ≤ n
-    → slotAt journal k ≡ slotAt other k
-slot-agree journal other n k e f t =
-    sym (slot-take journal n k f t) ∙ ap (λ (l : List ℕ). slotAt l k) e ∙ slot-take other n k f t
-
 -- a slot that stands behind n slots' bytes
 pub slot-behind : (front : List ℕ) (n : ℕ) (slot : Slot) (rest : List ℕ) → length front ≡ slotBytes * n → slot .struck < 2 ^ 24
     → slotAt (front ++ bytesOf slot ++ rest) (n + 1) ≡ slot
@@ -340,37 +307,6 @@ slot-listed (slot ∷ slots) rest (suc i) none h small =
     ∙ ap (λ (k : ℕ). slotAt (bytesOf slot ++ (slotsBytes slots ++ rest)) k) {x = suc i + 1} {y = i + 1 + 1} (omega arith)
     ∙ slot-later (bytesOf slot) (slotsBytes slots ++ rest) (i + 1) (bytes-length slot) (omega arith)
     ∙ slot-listed slots rest i none (le-of-suc-le-suc h) small
-
--- byte i of the slot that was read is the byte that stood there
-slot-byte : (journal : List ℕ) (n : ℕ) → ((i : ℕ) → i < slotBytes → getD journal (slotStart n + i) 0 < 256)
-    → (i : ℕ) → i < 8 → getD (bytesOf (slotAt journal n)) i 0 ≡ getD journal (slotStart n + i) 0
-unfolding bytesOf slotAt
-slot-byte journal n small zero u = ap (λ (k : ℕ). getD journal k 0) (sym (add-zero (slotStart n)))
-slot-byte journal n small (suc zero) u = refl
-slot-byte journal n small (suc (suc zero)) u = refl
-slot-byte journal n small (suc (suc (suc zero))) u = refl
-slot-byte journal n small (suc (suc (suc (suc zero)))) u = refl
-slot-byte journal n small (suc (suc (suc (suc (suc zero))))) u =
-    low-three (getD journal (slotStart n + 5) 0) (getD journal (slotStart n + 6) 0) (small 5 (omega arith)) (small 6 (omega arith)) (getD journal (slotStart n + 7) 0) (small 7 (omega arith))
-slot-byte journal n small (suc (suc (suc (suc (suc (suc zero)))))) u =
-    second-three (getD journal (slotStart n + 5) 0) (getD journal (slotStart n + 6) 0) (small 5 (omega arith)) (small 6 (omega arith)) (getD journal (slotStart n + 7) 0) (small 7 (omega arith))
-slot-byte journal n small (suc (suc (suc (suc (suc (suc (suc zero))))))) u =
-    third-three (getD journal (slotStart n + 5) 0) (getD journal (slotStart n + 6) 0) (small 5 (omega arith)) (small 6 (omega arith)) (getD journal (slotStart n + 7) 0) (small 7 (omega arith))
-slot-byte journal n small (suc (suc (suc (suc (suc (suc (suc (suc i)))))))) u = absurd (omega arith)
-
--- a slot whose bytes are bytes is written as it was read
-pub slot-part-bytes : (journal : List ℕ) (n : ℕ) → slotStart n + slotBytes ≤ length journal
-    → ((i : ℕ) → i < slotBytes → getD journal (slotStart n + i) 0 < 256) → bytesOf (slotAt journal n) ≡ slotPart journal n
-unfolding slotPart part
-slot-part-bytes journal n fits small =
-    ext-getD 0 (bytesOf (slotAt journal n)) (take slotBytes (drop (slotStart n) journal)) (bytes-length (slotAt journal n) ∙ sym full)
-    (λ i u. at-byte i (omega (arith, bytes-length (slotAt journal n))) ∙ sym (getD-take slotBytes (drop (slotStart n) journal) i 0 (omega (arith, bytes-length (slotAt journal n))) ∙ getD-drop (slotStart n) journal i 0))
-  where
-    full : length (take slotBytes (drop (slotStart n) journal)) ≡ slotBytes
-    full = length-take-le slotBytes (drop (slotStart n) journal) (omega (arith, length-drop (slotStart n) journal))
-
-    at-byte : (i : ℕ) → i < 8 → getD (bytesOf (slotAt journal n)) i 0 ≡ getD journal (slotStart n + i) 0
-    at-byte i u = slot-byte journal n small i u
 
 -- ---- stored checks
 
@@ -458,16 +394,6 @@ module _ (checks : List ℕ) (n : ℕ) (c : Stored) (fits : checkBytes * (n + 1)
   unfolding verdictByte storedBytes
   verdict-written = check-byte-written checks n (storedBytes c) (stored-length c) fits 5 (omega arith)
 
--- checks 1 to n are read from the first n checks' bytes alone
-pub stored-take : (checks : List ℕ) (n k : ℕ) → 1 ≤ k → k ≤ n → storedAt (take (checkBytes * n) checks) k ≡ storedAt checks k
-unfolding checkStart
-stored-take checks n k f t =
-    stored-same (take (checkBytes * n) checks) checks k (λ i u. getD-take (checkBytes * n) checks (checkBytes * (k - 1) + i) 0 (omega arith))
-
-pub verdict-take : (checks : List ℕ) (n k : ℕ) → 1 ≤ k → k ≤ n → verdictByte (take (checkBytes * n) checks) k ≡ verdictByte checks k
-unfolding verdictByte checkStart
-verdict-take checks n k f t = getD-take (checkBytes * n) checks (checkBytes * (k - 1) + 5) 0 (omega arith)
-
 -- a check that stands behind n checks' bytes
 module _ (front : List ℕ) (n : ℕ) (c : Stored) (rest : List ℕ) (e : length front ≡ checkBytes * n) where
   byte-behind : (i : ℕ) → i < checkBytes → getD (front ++ storedBytes c ++ rest) (checkStart (n + 1) + i) 0 ≡ getD (storedBytes c) i 0
@@ -538,37 +464,3 @@ verdict-listed (c ∷ cs) rest (suc i) none h =
     ∙ verdict-listed cs rest i none (le-of-suc-le-suc h)
 
 -- ---- parts of a journal that begins with slots' bytes
-
--- the parts of slots 1 to n lie in the first n slots' bytes
-pub slot-part-take : (journal : List ℕ) (n k : ℕ) → 1 ≤ k → k ≤ n → slotPart (take (slotBytes * n) journal) k ≡ slotPart journal k
-unfolding slotPart part slotStart
-slot-part-take journal n k f t =
-    ext-getD 0 (take slotBytes (drop (slotBytes * (k - 1)) (take (slotBytes * n) journal))) (take slotBytes (drop (slotBytes * (k - 1)) journal))
-    (omega (arith, left, right, length-drop (slotBytes * (k - 1)) (take (slotBytes * n) journal), length-drop (slotBytes * (k - 1)) journal, length-take (slotBytes * n) journal))
-    (λ i u. inner i (omega (arith, u, left)))
-  where
-    left : length (take slotBytes (drop (slotBytes * (k - 1)) (take (slotBytes * n) journal))) ≡ min slotBytes (length (drop (slotBytes * (k - 1)) (take (slotBytes * n) journal)))
-    left = length-take slotBytes (drop (slotBytes * (k - 1)) (take (slotBytes * n) journal))
-
-    right : length (take slotBytes (drop (slotBytes * (k - 1)) journal)) ≡ min slotBytes (length (drop (slotBytes * (k - 1)) journal))
-    right = length-take slotBytes (drop (slotBytes * (k - 1)) journal)
-
-    inner : (i : ℕ) → i < slotBytes
-        → getD (take slotBytes (drop (slotBytes * (k - 1)) (take (slotBytes * n) journal))) i 0 ≡ getD (take slotBytes (drop (slotBytes * (k - 1)) journal)) i 0
-    inner i u =
-        getD-take slotBytes (drop (slotBytes * (k - 1)) (take (slotBytes * n) journal)) i 0 u
-        ∙ getD-drop (slotBytes * (k - 1)) (take (slotBytes * n) journal) i 0
-        ∙ getD-take (slotBytes * n) journal (slotBytes * (k - 1) + i) 0 (omega arith)
-        ∙ sym (getD-drop (slotBytes * (k - 1)) journal i 0)
-        ∙ sym (getD-take slotBytes (drop (slotBytes * (k - 1)) journal) i 0 u)
-
--- the part that stands behind n slots' bytes
-pub slot-part-behind : (front : List ℕ) (n : ℕ) (slot : Slot) (rest : List ℕ) → length front ≡ slotBytes * n → slotPart (front ++ bytesOf slot ++ rest) (n + 1) ≡ bytesOf slot
-unfolding slotPart part slotStart
-slot-part-behind front n slot rest e =
-    (λ j. take slotBytes (drop (starts j) (append-assoc front (bytesOf slot) rest j)))
-    ∙ ap (λ (l : List ℕ). take slotBytes l) (drop-at front (bytesOf slot ++ rest) (slotBytes * n) e)
-    ∙ take-at (bytesOf slot) rest slotBytes (bytes-length slot)
-  where
-    starts : slotBytes * (n + 1 - 1) ≡ slotBytes * n
-    starts = omega arith

@@ -2,12 +2,12 @@
 -- Assumes nothing.
 use Prim.Native.Nat.{ℕ, _-_, _^_, _≤_, _<_}
 use mathlib.Core.Path.{_≡_, refl, sym, ap, subst, _∙_}
-use mathlib.Core.Bool.{Bool, true, false, not}
+use mathlib.Core.Bool.{true, false, not}
 use mathlib.Core.List.{List}
 use native.Mathlib.Omega.{arith}
 use borrow.Author.Tests.{eqb-true, eqb-false, eq-eqb, ne-eqb, le-leb, lt-ltb, leb-true, leb-false, not-true, not-false}
 use lib.Dec.{eqb, leb, ltb}
-use lib.ListN.{length, getD, replicate, getD-replicate, List·getD-eq-default}
+use lib.ListN.{length, replicate, getD-replicate, List·getD-eq-default}
 use Rattle.sudoku.specs.Tests.{pick, both, either, bit}
 use Rattle.sudoku.specs.Grid.{inRange, onGrid, cellOf, isCell, at, put, peersOf}
 use Rattle.sudoku.proofs.Walks.{by-test, not-both-ways, pick-true, pick-false, both-true, both-right, both-false-left, both-false-right, either-left, either-right, every-at}
@@ -255,13 +255,6 @@ given-kept s (Erase row column) = refl
 given-kept s (WriteMark row column digit) = refl
 given-kept s (StrikeMark row column digit) = refl
 
-pub given-kept-again : (s : State) (m : Move) (mask : ℕ) → (performAgain s m mask) .given ≡ s .given
-unfolding perform performAgain putDigit withNotes
-given-kept-again s (Place row column digit) mask = refl
-given-kept-again s (Erase row column) mask = refl
-given-kept-again s (WriteMark row column digit) mask = refl
-given-kept-again s (StrikeMark row column digit) mask = refl
-
 pub given-kept-back : (s : State) (m : Move) (digitBefore mask : ℕ) → (takeBack s m digitBefore mask) .given ≡ s .given
 unfolding takeBack putDigit withNotes
 given-kept-back s (Place row column digit) digitBefore mask = refl
@@ -414,8 +407,3 @@ fit-opening solution gs on matches up range h =
   where
     rise : Rising 0 gs
     rise = rising solution gs on matches up
-
--- which is not solved
-pub opening-unsolved : (gs : List Given) → isOn (opening gs .solved) ≡ false
-unfolding opening
-opening-unsolved gs = refl

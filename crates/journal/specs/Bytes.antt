@@ -1,7 +1,7 @@
 -- Bytes in lent memory: a part of it, bytes laid over it, and numbers of two and three bytes, low first.
 -- Assumes nothing.
 use Prim.Native.Nat.{ℕ, _+_, _*_, _/_, _%_}
-use mathlib.Core.List.{List, [], _∷_, _++_}
+use mathlib.Core.List.{List, _++_}
 use lib.Dec.{leb}
 use lib.ListN.{length, take, drop}
 use Rattle.sudoku.specs.Tests.{pick}

@@ -25,6 +25,19 @@ journalBytes = slotBytes * maxMoves
 abbrev pub checkMemory : ℕ
 checkMemory = checkBytes * maxChecks
 
--- the longest record: 80 givens and the moves at four bytes, the undone count at three, the checks at six: 5,955
+-- bytes of a record's items, the kind byte among them: a given; a move, at most; the undone count; a check
+abbrev pub givenItemBytes : ℕ
+givenItemBytes = 4
+
+abbrev pub moveItemBytes : ℕ
+moveItemBytes = 4
+
+abbrev pub undoneItemBytes : ℕ
+undoneItemBytes = 3
+
+abbrev pub checkItemBytes : ℕ
+checkItemBytes = 6
+
+-- the longest record, with one cell to play: 5,955
 abbrev pub recordBytes : ℕ
-recordBytes = 4 * 80 + 4 * maxMoves + 3 + 6 * maxChecks
+recordBytes = givenItemBytes * 80 + moveItemBytes * maxMoves + undoneItemBytes + checkItemBytes * maxChecks

@@ -1,12 +1,12 @@
 -- Stored checks of document 01 (check.rs): check n is the nth six bytes of the check memory. The layout is read and written here and nowhere else.
 -- Assumes nothing.
 use Prim.Native.Nat.{ℕ, _+_, _-_, _*_}
-use mathlib.Core.Bool.{Bool, not}
+use mathlib.Core.Bool.{Bool}
 use mathlib.Core.List.{List, [], _∷_, _++_}
 use lib.Dec.{leb, eqb}
 use lib.ListN.{getD}
 use Rattle.sudoku.specs.Tests.{both, bit}
-use Rattle.sudoku.specs.Grid.{inRange, onGrid, cellOf, at}
+use Rattle.sudoku.specs.Grid.{inRange, cellOf, at}
 use Rattle.journal.specs.declared.Asked.{Asked}
 use Rattle.journal.specs.Limits.{maxMoves, checkBytes}
 use Rattle.journal.specs.Bytes.{low, second, two}

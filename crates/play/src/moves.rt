@@ -32,7 +32,9 @@ ghost use mathlib.Core.Path.{_≡_};
 ghost use mathlib.Core.List.{List};
 ghost use Rattle.sudoku.specs.Grid.{put, peersOf};
 ghost use Rattle.journal.specs.State.{putDigit, strikeAll, perform as performOf};
-ghost use Rattle.journal.specs.Slots.{slotFor, plainSlot};
+ghost use Rattle.journal.specs.Limits.{slotBytes};
+ghost use Rattle.journal.specs.Bytes.{laid};
+ghost use Rattle.journal.specs.Slots.{slotFor, plainSlot, bytesOf};
 ghost use Rattle.play.specs.Parts.{parts};
 ghost use Rattle.play.specs.Play.{playOf, placeOf, eraseOf, writeMarkOf, strikeMarkOf};
 
@@ -165,6 +167,24 @@ pub fn play(board: Board, journal: &mut [u8], m: Move) -> Answer
     answer.board.made = counts.made;
     answer.board.standing = counts.standing;
     answer
+}
+
+// A move performed and recorded on parts that are lent, in place; the status afterwards is answered. Reopening makes its moves so, one after the
+// other, and copies no board for a move; a call that lent its answer's digits and notes together would copy them first.
+pub fn make_in(
+    digits: &mut [u8; 81],
+    notes: &mut [u16; 81],
+    solved: u8,
+    standing: usize,
+    journal: &mut [u8],
+    m: Move,
+) -> u8
+    ensures { λ r. ⌜ ((given : List ℕ) → (parts given (now (digits .exit)) (now (notes .exit)) r ≡ performOf (parts given (now (digits .entry)) (now (notes .entry)) solved) m) × (now (journal .exit) ≡ laid (now (journal .entry)) (slotBytes * standing) (bytesOf (slotFor (parts given (now (digits .entry)) (now (notes .entry)) solved) m)))) ⌝ }
+{
+    let slot = slot_of(digits, notes, m);
+    write_slot(journal, standing, slot);
+    perform_notes(notes, m);
+    perform_digit(digits, solved, m)
 }
 
 // Puts a digit into a cell. Refused by 1 2 3 4 5 8 9 15.

@@ -1,8 +1,8 @@
 -- Readings of document 01 (reading.rs, moves.rs): for move k its kind, target, digit, whether undone, its index,
 -- and digits and notes after slots 1 to k are applied, as recorded, to the givens and empty notes. Refusals 1, 2, 14, 35.
 -- Assumes nothing.
-use Prim.Native.Nat.{ℕ, _+_, _*_}
-use mathlib.Core.Bool.{Bool, false, not}
+use Prim.Native.Nat.{ℕ}
+use mathlib.Core.Bool.{false, not}
 use mathlib.Core.List.{List}
 use lib.Dec.{leb, ltb, eqb}
 use lib.ListN.{length, replicate}
@@ -10,13 +10,11 @@ use Rattle.puzzle.specs.Givens.{isSet}
 use Rattle.sudoku.specs.Tests.{pick, both, run, listed}
 use Rattle.sudoku.specs.Grid.{at}
 use Rattle.puzzle.specs.declared.Refusal.{Refusal}
-use Rattle.puzzle.specs.Refusals.{refusal, accepted, isAccepted, refusedIf, orElse, firstRefused}
+use Rattle.puzzle.specs.Refusals.{refusal, accepted, isAccepted, refusedIf, orElse}
 use Rattle.journal.specs.Limits.{journalBytes}
-use Rattle.journal.specs.declared.Slot.{Slot}
 use Rattle.journal.specs.State.{State, performAgain}
 use Rattle.journal.specs.Slots.{slotAt, moveOf}
 use Rattle.board.specs.declared.Board.{Board}
-use Rattle.board.specs.Board.{stateOf, isBoard}
 use Rattle.play.specs.Play.{journalRefusal}
 use Rattle.readings.specs.declared.Reading.{Reading}
 

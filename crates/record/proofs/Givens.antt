@@ -7,7 +7,7 @@ use mathlib.Core.List.{List, [], _∷_}
 use native.Mathlib.Omega.{arith}
 use borrow.Author.Tests.{eqb-true}
 use lib.Dec.{eqb}
-use lib.ListN.{length, getD}
+use lib.ListN.{length}
 use Rattle.sudoku.specs.Tests.{bit, keep, count}
 use Rattle.sudoku.specs.Grid.{isCell, rowOf, columnOf, at}
 use Rattle.sudoku.proofs.Walks.{by-test, count-same}

@@ -7,6 +7,7 @@ use mathlib.Core.List.{List, [], _∷_, _++_, map}
 use Rattle.puzzle.specs.declared.Given.{Given as Setters}
 use Rattle.journal.specs.declared.Move.{Move}
 use Rattle.journal.specs.declared.Move.the-variants.{Place, Erase, WriteMark, StrikeMark}
+use Rattle.journal.specs.Kinds.{givenKind, placeKind, eraseKind, writeKind, strikeKind, undoneKind, checkKind}
 use Rattle.journal.specs.Bytes.{low, second}
 use Rattle.record.specs.declared.Item.{Item}
 use Rattle.record.specs.declared.Item.the-variants.{Given, Played, Undone, Check}
@@ -14,13 +15,13 @@ use Rattle.journal.specs.declared.Asked.{Asked}
 
 -- the bytes of one item
 unfoldable pub encode : Item → List ℕ
-encode (Given row column digit) = 1 ∷ row ∷ column ∷ digit ∷ []
-encode (Played (Place row column digit)) = 2 ∷ row ∷ column ∷ digit ∷ []
-encode (Played (Erase row column)) = 3 ∷ row ∷ column ∷ []
-encode (Played (WriteMark row column digit)) = 4 ∷ row ∷ column ∷ digit ∷ []
-encode (Played (StrikeMark row column digit)) = 5 ∷ row ∷ column ∷ digit ∷ []
-encode (Undone n) = 6 ∷ low n ∷ second n ∷ []
-encode (Check standing row column digit) = 7 ∷ low standing ∷ second standing ∷ row ∷ column ∷ digit ∷ []
+encode (Given row column digit) = givenKind ∷ row ∷ column ∷ digit ∷ []
+encode (Played (Place row column digit)) = placeKind ∷ row ∷ column ∷ digit ∷ []
+encode (Played (Erase row column)) = eraseKind ∷ row ∷ column ∷ []
+encode (Played (WriteMark row column digit)) = writeKind ∷ row ∷ column ∷ digit ∷ []
+encode (Played (StrikeMark row column digit)) = strikeKind ∷ row ∷ column ∷ digit ∷ []
+encode (Undone n) = undoneKind ∷ low n ∷ second n ∷ []
+encode (Check standing row column digit) = checkKind ∷ low standing ∷ second standing ∷ row ∷ column ∷ digit ∷ []
 
 -- the bytes of items, one after the other
 unfoldable pub encodeAll : List Item → List ℕ

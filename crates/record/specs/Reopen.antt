@@ -8,7 +8,6 @@ use lib.Dec.{leb, ltb, eqb}
 use lib.ListN.{length}
 use Rattle.sudoku.specs.Tests.{_⇒_, first, pick, both, either, count}
 use Rattle.sudoku.specs.Grid.{inRange, onGrid, cellOf}
-use Rattle.puzzle.specs.declared.Given.{Given as Setters}
 use Rattle.puzzle.specs.declared.Refusal.{Refusal}
 use Rattle.puzzle.specs.Refusals.{refusal, accepted, isAccepted, refusedIf, orElse}
 use Rattle.puzzle.specs.Givens.{isOn, ascending, isSet}

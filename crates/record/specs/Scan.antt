@@ -1,7 +1,7 @@
 -- Reading a record's bytes of document 01: the items, number 17, and the parts that the items make.
 -- Assumes nothing.
 use Prim.Native.Nat.{ℕ, zero, suc}
-use mathlib.Core.Bool.{Bool, not}
+use mathlib.Core.Bool.{Bool}
 use mathlib.Core.List.{List, [], _∷_}
 use lib.Dec.{leb, eqb}
 use lib.ListN.{length}
@@ -9,12 +9,10 @@ use Rattle.sudoku.specs.Tests.{pick}
 use Rattle.puzzle.specs.declared.Refusal.{Refusal}
 use Rattle.puzzle.specs.Refusals.{refusal, accepted}
 use Rattle.puzzle.specs.Givens.{given}
-use Rattle.journal.specs.declared.Move.{Move}
 use Rattle.journal.specs.declared.Move.the-variants.{Place, Erase, WriteMark, StrikeMark}
 use Rattle.journal.specs.Bytes.{two}
 use Rattle.record.specs.declared.Item.{Item}
 use Rattle.record.specs.declared.Item.the-variants.{Given, Played, Undone, Check}
-use Rattle.journal.specs.declared.Asked.{Asked}
 use Rattle.record.specs.Items.{Parts}
 
 -- what stands first in some bytes: an item and the bytes after it, or no whole item

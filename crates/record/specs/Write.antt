@@ -1,10 +1,10 @@
 -- Writing a record of document 01: refusals 1, 2, 14, 34; the record in the output, bytes beyond it as they were.
 -- Assumes nothing.
 use Prim.Native.Nat.{ℕ, zero, suc, _-_}
-use mathlib.Core.Bool.{Bool, not}
-use mathlib.Core.List.{List, [], _∷_, _++_}
+use mathlib.Core.Bool.{not}
+use mathlib.Core.List.{List, []}
 use lib.Dec.{ltb, eqb}
-use lib.ListN.{length, drop}
+use lib.ListN.{length}
 use Rattle.sudoku.specs.Tests.{pick, both, keep, listed}
 use Rattle.sudoku.specs.Grid.{at, rowOf, columnOf}
 use Rattle.puzzle.specs.declared.Given.{Given as Setters}

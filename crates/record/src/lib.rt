@@ -1,6 +1,9 @@
 // The record (board/record.rs of the original): a board written down whole as bytes, and reopened from what was written.
+use journal::MAX_CHECKS;
+use journal::MAX_MOVES;
 use journal::Move;
 use puzzle::Refusal;
+use sudoku::CELLS;
 
 pub mod items;
 pub mod scan;
@@ -12,6 +15,11 @@ pub const MOVE_ITEM: usize = 4;
 pub const ERASE_ITEM: usize = 3;
 pub const UNDONE_ITEM: usize = 3;
 pub const CHECK_ITEM: usize = 6;
+// The longest record: every cell a given but one, all moves and all checks.
+pub const RECORD_BYTES: usize = GIVEN_ITEM * (CELLS - 1)
+    + MOVE_ITEM * MAX_MOVES
+    + UNDONE_ITEM
+    + CHECK_ITEM * MAX_CHECKS;
 
 // An item of the record.
 pub enum Item {

@@ -9,7 +9,7 @@ use native.Mathlib.Numerals.{add-one}
 use native.Mathlib.Omega.{arith}
 use borrow.Author.Tests.{eqb-false, eq-eqb, ne-eqb}
 use lib.Dec.{eqb}
-use lib.ListN.{length, getD}
+use lib.ListN.{length}
 use Rattle.puzzle.specs.Givens.{isSet}
 use Rattle.sudoku.specs.Tests.{_⇒_, first, both, count, listed}
 use Rattle.sudoku.specs.Grid.{inRange, onGrid, cellOf}
@@ -19,17 +19,14 @@ use Rattle.puzzle.specs.declared.Refusal.{Refusal}
 use Rattle.puzzle.specs.Refusals.{refusal, accepted, refusedIf, orElse}
 use Rattle.puzzle.proofs.Accepted.{if-not}
 use Rattle.puzzle.proofs.Refusals.{refused-if, or-else-by, or-else-passed, or-else-past}
-use Rattle.journal.specs.Limits.{checkBytes}
-use Rattle.journal.specs.Bytes.{over, laid}
-use Rattle.journal.specs.StoredChecks.{storedCheck, isRight, judge, storedBytes, storedAll}
-use Rattle.journal.proofs.Memory.{stored-length, length-stored}
-use Rattle.journal.proofs.Stores.{laid-over}
+use Rattle.journal.specs.StoredChecks.{isRight, judged, storedBytes, storedAll}
+use Rattle.journal.proofs.Memory.{length-stored}
 use Rattle.board.specs.declared.Board.{Board}
 use Rattle.board.specs.Board.{stateOf}
 use Rattle.journal.specs.declared.Asked.{Asked}
 use Rattle.record.specs.Counting.{askedFrom}
-use Rattle.record.specs.Reopen.{toPlay, checkRefusal, checksRefusal, judged}
-use Rattle.reopen.specs.Reopening.{asksAt, checkNumber}
+use Rattle.record.specs.Reopen.{toPlay, checkRefusal, checksRefusal}
+use Rattle.reopen.specs.Reopening.{asksAt, askedNumber}
 use Rattle.record.proofs.Givens.{count-not}
 
 -- ---- cells to play
@@ -45,7 +42,7 @@ cells-to-play b =
 
 -- ---- one check
 
-module _ (b : Board) (cells k : ℕ) (c : Asked) (n : ℕ) (e : n ≡ checkNumber (b .given) c) where
+module _ (b : Board) (cells k : ℕ) (c : Asked) (n : ℕ) (e : n ≡ askedNumber (b .given) c) where
   abbrev third : Refusal
   third = refusedIf (both (isRight (b .solution) (cellOf (c .row) (c .column)) (c .digit)) (eqb cells 1)) (refusal 33 k 0)
 
@@ -53,7 +50,7 @@ module _ (b : Board) (cells k : ℕ) (c : Asked) (n : ℕ) (e : n ≡ checkNumbe
   from32 = orElse (refusedIf (eqb (c .standing) 0) (refusal 32 k 0)) third
 
   is : checkRefusal b cells k c ≡ orElse (refusedIf (not (eqb n 0)) (refusal 31 k n)) from32
-  unfolding checkRefusal checkNumber stateOf
+  unfolding checkRefusal askedNumber stateOf
   is = ap (λ (x : ℕ). orElse (refusedIf (not (eqb x 0)) (refusal 31 k x)) from32) (sym e)
 
   pub refused-31 : (n ≡ 0 → ⊥) → refusal 31 k n ≡ checkRefusal b cells k c
@@ -80,16 +77,6 @@ module _ (b : Board) (cells k : ℕ) (c : Asked) (n : ℕ) (e : n ≡ checkNumbe
 
       pub past-33 : (cells ≡ 1 → ⊥) → accepted ≡ checkRefusal b cells k c
       past-33 more = sym (past-32 ∙ if-not _ (refusal 33 k 0) (both-false-right _ (eqb cells 1) (ne-eqb cells 1 more)))
-
--- stored with its verdict
-pub check-stored : (l : List ℕ) (k : ℕ) (solution : List ℕ) (c : Asked) (right : Bool) → 1 ≤ k → 6 * k ≤ length l
-    → right ≡ isRight solution (cellOf (c .row) (c .column)) (c .digit)
-    → laid l (checkBytes * (k - 1)) (storedBytes (storedCheck (c .standing) (c .row) (c .column) (c .digit) right))
-    ≡ over l (6 * (k - 1)) (storedBytes (judged solution c))
-unfolding judged judge
-check-stored l k solution c right f h e =
-    ap (λ (t : Bool). laid l (checkBytes * (k - 1)) (storedBytes (storedCheck (c .standing) (c .row) (c .column) (c .digit) t))) e
-    ∙ laid-over l (6 * (k - 1)) (storedBytes (judged solution c)) (omega (arith, stored-length (judged solution c)))
 
 -- ---- all checks
 

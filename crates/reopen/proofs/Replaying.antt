@@ -1,6 +1,6 @@
 -- Moves of a record performed one after the other: 28, 29, or on to the next; what is left to perform decides.
 -- Assumes nothing.
-use Prim.Native.Nat.{ℕ, suc, _+_, _-_, _≤_, _<_, min}
+use Prim.Native.Nat.{ℕ, suc, _+_, _-_, _*_, _≤_, _<_, min}
 use mathlib.Core.Path.{_≡_, sym, ap, _∙_}
 use mathlib.Core.Bool.{true, false}
 use mathlib.Core.List.{List, _∷_}
@@ -15,12 +15,17 @@ use Rattle.puzzle.specs.declared.Refusal.{Refusal}
 use Rattle.puzzle.specs.Refusals.{refusal, accepted}
 use Rattle.journal.specs.declared.Counts.{Counts}
 use Rattle.journal.specs.declared.Move.{Move}
-use Rattle.journal.specs.Limits.{maxMoves}
 use Rattle.journal.specs.Counts.{counts, recorded}
 use Rattle.board.specs.declared.Answer.{Answer}
 use Rattle.board.specs.declared.Board.{Board}
-use Rattle.board.specs.Board.{stateOf, countsOf, boardOf, moved}
+use Rattle.journal.specs.Limits.{maxMoves, slotBytes}
+use Rattle.journal.specs.Bytes.{laid}
+use Rattle.journal.specs.State.{perform}
+use Rattle.journal.specs.Slots.{slotFor, bytesOf}
+use Rattle.journal.proofs.Stores.{laid-over}
+use Rattle.board.specs.Board.{whole, stateOf, countsOf, boardOf, moved}
 use Rattle.board.specs.Open.{answer}
+use Rattle.play.specs.Parts.{parts}
 use Rattle.play.specs.Play.{Played, played, moveTests, recordMove}
 use Rattle.record.specs.declared.Item.the-variants.{Played as PlayedItem}
 use Rattle.record.specs.Items.{encode}
@@ -104,6 +109,23 @@ module _ (b : Board) (journal : List ℕ) (k : ℕ) (m : Move) where
       by-move (λ t e. omega (arith, ap (λ (x : Played). x .answer .board .standing) e))
       (λ t u e. omega (arith, ap (λ (x : Played). x .answer .board .standing) e))
       (λ t u e. omega (arith, ap (λ (x : Played). x .answer .board .standing) e, recorded-le (countsOf b)))
+
+  -- the move made and recorded: the parts of the board afterwards, its counts, and the journal
+  module _
+      (goes-on : nextRefusal (stateOf b) k m .number ≡ 0)
+      (digits notes : List ℕ)
+      (solved : ℕ)
+      (after : Counts)
+      (made : parts (b .given) digits notes solved ≡ perform (stateOf b) m)
+      (counted : after ≡ recorded (countsOf b)) where
+    pub next-made : answer accepted (whole digits (b .given) notes (b .solution) solved (after .made) (after .standing) (b .checks)) ≡ performed b journal k m .answer
+    unfolding recordMove moved boardOf
+    next-made = (λ i. answer accepted (moved b (made i) (counted i))) ∙ sym (ap (λ (x : Played). x .answer) (next-goes-on goes-on))
+
+    pub next-wrote : (out : List ℕ) → out ≡ laid journal (slotBytes * b .standing) (bytesOf (slotFor (stateOf b) m)) → slotBytes * b .standing + slotBytes ≤ length journal
+        → out ≡ performed b journal k m .journal
+    unfolding recordMove bytesOf
+    next-wrote out e room = e ∙ laid-over _ _ _ room ∙ sym (ap (λ (x : Played). x .journal) (next-goes-on goes-on))
 
 -- a turn of the loop
 module _

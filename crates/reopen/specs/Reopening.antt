@@ -2,7 +2,7 @@
 -- Assumes nothing.
 use Prim.Native.Nat.{ℕ, zero, suc, _+_, _-_, _*_}
 use mathlib.Core.Path.{_≡_}
-use mathlib.Core.Bool.{Bool, not}
+use mathlib.Core.Bool.{not}
 use mathlib.Core.List.{List, [], _∷_}
 use lib.Dec.{eqb}
 use lib.ListN.{length}
@@ -48,8 +48,8 @@ performed b journal k m =
     (pick (eqb n 0) (recordMove b journal m) (played (refusal 29 k n) b journal))
 
 -- 3, 5 or 8 of a check, 0 where none applies
-unfoldable pub checkNumber : List ℕ → Asked → ℕ
-checkNumber given c =
+unfoldable pub askedNumber : List ℕ → Asked → ℕ
+askedNumber given c =
     first
     ((not (onGrid (c .row) (c .column)) ⇒ 3)
     ∷ (isSet given (cellOf (c .row) (c .column)) ⇒ 5)

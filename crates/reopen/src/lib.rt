@@ -1,5 +1,5 @@
 // Reopening a record: the givens opened, all moves performed (28, 29), the undone ones taken back (30), then the checks (31 to 33).
-use undo::undo;
+use undo::undo_in;
 use board::Answer;
 use board::Board;
 use board::open::clear;
@@ -9,20 +9,19 @@ use board::open::wrong_length;
 use board::open::zero_board;
 use journal::Counts;
 use journal::Move;
-use journal::checks::write_check;
+use journal::checks::is_right;
+use journal::checks::store_check;
 use journal::slots::is_given;
-use journal::slots::write_slot;
 use journal::steps::after_record;
-use play::checks::is_right;
-use play::moves::perform_digit;
-use play::moves::perform_notes;
-use play::moves::slot_of;
-use play::numbers::number_of_move;
+use play::moves::make_in;
+use play::numbers::move_number;
 use puzzle::Layout;
 use puzzle::Refusal;
 use puzzle::answer::accepted;
 use puzzle::answer::refusal;
 use journal::Asked;
+use record::CHECK_ITEM;
+use record::GIVEN_ITEM;
 use record::items::asked_at;
 use record::items::move_at;
 use record::scan::read_record;
@@ -40,14 +39,14 @@ ghost use lib.Dec.{eqb};
 ghost use lib.ListN.{length};
 ghost use Rattle.puzzle.specs.Givens.{isOn};
 ghost use Rattle.sudoku.specs.Tests.{both};
-ghost use Rattle.journal.specs.Limits.{maxMoves, maxChecks, journalBytes, checkMemory};
+ghost use Rattle.journal.specs.Limits.{maxMoves, maxChecks, checkBytes, checkItemBytes, journalBytes, checkMemory};
 ghost use Rattle.journal.specs.Bytes.{over};
-ghost use Rattle.journal.specs.StoredChecks.{storedBytes, storedAll};
+ghost use Rattle.journal.specs.StoredChecks.{judged, storedBytes, storedAll};
+ghost use Rattle.board.specs.Board.{whole};
 ghost use Rattle.board.specs.Open.{noMoves, noChecks, Gives};
-ghost use Rattle.puzzle.specs.Refusals.{accepted as acceptedOf};
 ghost use Rattle.play.specs.Parts.{parts};
-ghost use Rattle.record.specs.Reopen.{replay as replayOf, takeBackAll, toPlay, checkRefusal, checksRefusal, judged, reopenOf};
-ghost use Rattle.reopen.specs.Reopening.{movesAt, asksAt, nextRefusal, performed, checkNumber, settledBy, reopenedOf, Reopens};
+ghost use Rattle.record.specs.Reopen.{replay as replayOf, takeBackAll, toPlay, checkRefusal, checksRefusal, reopenOf};
+ghost use Rattle.reopen.specs.Reopening.{movesAt, asksAt, nextRefusal, askedNumber, settledBy, reopenedOf, Reopens};
 
 // Why move k is refused, asked of a board's parts: 28 before 29.
 fn next_refusal<'a>(
@@ -63,46 +62,30 @@ fn next_refusal<'a>(
     if solved != 0 {
         return refusal(28, k, 0);
     }
-    let n = number_of_move(digits, given, notes, solved, m);
+    let n = move_number(digits, given, notes, solved, m);
     if n != 0 {
         return refusal(29, k, n);
     }
     accepted()
 }
 
-// Move k performed on the board of the answer so far, in place.
-fn perform_move(last: Answer, journal: &mut [u8], k: usize, m: Move) -> Answer
-    requires { ⌜ (length (now journal) ≡ journalBytes) × (last .board .standing < maxMoves) × (last .refusal ≡ acceptedOf) ⌝ }
-    ensures { λ r. ⌜ (r ≡ performed (last .board) (now (journal .entry)) k m .answer) × (now (journal .exit) ≡ performed (last .board) (now (journal .entry)) k m .journal) ⌝ }
+// The board with other digits, notes, status and counts.
+fn with_parts(
+    board: Board,
+    digits: [u8; 81],
+    notes: [u16; 81],
+    solved: u8,
+    counts: Counts,
+) -> Board
+    ensures { λ r. ⌜ r ≡ whole digits (board .given) notes (board .solution) solved (counts .made) (counts .standing) (board .checks) ⌝ }
 {
-    let mut answer = last;
-    let solved = last.board.solved;
-    let standing = last.board.standing;
-    let made = last.board.made;
-    let r = next_refusal(
-        &answer.board.digits,
-        &answer.board.given,
-        &answer.board.notes,
-        solved,
-        k,
-        m,
-    );
-    if r.number != 0 {
-        answer.refusal = r;
-        return answer;
-    }
-    let slot = slot_of(&answer.board.digits, &answer.board.notes, m);
-    write_slot(journal, standing, slot);
-    let counts = after_record(Counts {
-        made: made,
-        standing: standing,
-    });
-    let status = perform_digit(&mut answer.board.digits, solved, m);
-    perform_notes(&mut answer.board.notes, m);
-    answer.board.solved = status;
-    answer.board.made = counts.made;
-    answer.board.standing = counts.standing;
-    answer
+    let mut next = board;
+    next.digits = digits;
+    next.notes = notes;
+    next.solved = solved;
+    next.made = counts.made;
+    next.standing = counts.standing;
+    next
 }
 
 // All moves performed in order, the first of which stands at `start`.
@@ -110,36 +93,98 @@ fn replay(bytes: &[u8], start: usize, count: usize, board: Board, journal: &mut 
     requires { ⌜ (start ≤ length (now bytes)) × (count ≤ maxMoves) × (board .standing ≡ 0) × (length (now journal) ≡ journalBytes) ⌝ }
     ensures { λ r. ⌜ (r ≡ replayOf board (now (journal .entry)) 1 (movesAt (now (bytes .entry)) start count) .answer) × (now (journal .exit) ≡ replayOf board (now (journal .entry)) 1 (movesAt (now (bytes .entry)) start count) .journal) ⌝ }
 {
-    let mut answer = Answer {
-        refusal: accepted(),
-        board: board,
+    let mut digits = board.digits;
+    let mut notes = board.notes;
+    let mut solved = board.solved;
+    let mut counts = Counts {
+        made: board.made,
+        standing: board.standing,
     };
     let mut at = start;
     let mut k: usize = 1;
     while k <= count {
         let m = move_at(bytes, at);
-        let next = perform_move(answer, journal, k, m);
-        let r = next.refusal;
+        let r = next_refusal(&digits, &board.given, &notes, solved, k, m);
         if r.number != 0 {
-            return next;
+            return Answer {
+                refusal: r,
+                board: with_parts(board, digits, notes, solved, counts),
+            };
         }
-        answer = next;
+        solved = make_in(&mut digits, &mut notes, solved, counts.standing, journal, m);
+        let next = after_record(counts);
+        counts = next;
         at += move_length(m);
         k += 1;
     }
-    answer
+    Answer {
+        refusal: accepted(),
+        board: with_parts(board, digits, notes, solved, counts),
+    }
 }
 
-// Taking back n is one undo and then taking back n less one. No undo of a reopened record is refused, and its number is not tested.
-fn take_back_all(n: usize, board: Board, journal: &[u8]) -> Board
-    ensures { λ r. ⌜ r ≡ takeBackAll n board (now (journal .entry)) ⌝ }
+// Taking back n is one undo and then taking back n less one. The board's parts are lent, so that a step keeps nothing and the compiler makes a loop
+// of it, which tests/c/stack.c holds; a slice or a struct handed on by value would lie on the stack once for each step. No undo of a reopened record
+// is refused, and its number is not asked.
+fn take_back_all<'a>(
+    n: usize,
+    digits: &mut [u8; 81],
+    given: &'a [u8; 81],
+    notes: &mut [u16; 81],
+    solution: &'a [u8; 81],
+    solved: &mut u8,
+    made: usize,
+    standing: &mut usize,
+    checks: usize,
+    journal: &&[u8],
+)
+    ensures { λ _. ⌜ whole (now (digits .exit)) (now (given .entry)) (now (notes .exit)) (now (solution .entry)) (now (solved .exit)) made (now (standing .exit)) checks ≡ takeBackAll n (whole (now (digits .entry)) (now (given .entry)) (now (notes .entry)) (now (solution .entry)) (now (solved .entry)) made (now (standing .entry)) checks) (now (now (journal .entry))) ⌝ }
 {
     if n == 0 {
-        return board;
+        return;
     }
-    let answer = undo(board, journal);
-    let earlier = answer.board;
-    take_back_all(n - 1, earlier, journal)
+    undo_in(digits, given, notes, solution, solved, made, standing, checks, journal);
+    take_back_all(
+        n - 1,
+        digits,
+        given,
+        notes,
+        solution,
+        solved,
+        made,
+        standing,
+        checks,
+        journal,
+    );
+}
+
+// The board with n moves taken back.
+fn taken_back(n: usize, board: Board, journal: &[u8]) -> Board
+    ensures { λ r. ⌜ r ≡ takeBackAll n board (now (journal .entry)) ⌝ }
+{
+    let mut digits = board.digits;
+    let mut notes = board.notes;
+    let mut solved = board.solved;
+    let mut standing = board.standing;
+    let made = board.made;
+    let checks = board.checks;
+    take_back_all(
+        n,
+        &mut digits,
+        &board.given,
+        &mut notes,
+        &board.solution,
+        &mut solved,
+        made,
+        &mut standing,
+        checks,
+        &journal,
+    );
+    let counts = Counts {
+        made: made,
+        standing: standing,
+    };
+    with_parts(board, digits, notes, solved, counts)
 }
 
 // How many cells were to play.
@@ -150,8 +195,8 @@ fn to_play(board: Board) -> usize
 }
 
 // 3, 5 or 8 of a check.
-fn check_number(given: &[u8; 81], asked: Asked) -> u8
-    ensures { λ r. ⌜ r ≡ checkNumber (now (given .entry)) asked ⌝ }
+fn asked_number(given: &[u8; 81], asked: Asked) -> u8
+    ensures { λ r. ⌜ r ≡ askedNumber (now (given .entry)) asked ⌝ }
 {
     if !on_grid(asked.row, asked.column) {
         return 3;
@@ -169,7 +214,7 @@ fn check_number(given: &[u8; 81], asked: Asked) -> u8
 fn check_refusal(board: Board, cells: usize, k: usize, asked: Asked) -> Refusal
     ensures { λ r. ⌜ r ≡ checkRefusal board cells k asked ⌝ }
 {
-    let n = check_number(&board.given, asked);
+    let n = asked_number(&board.given, asked);
     if n != 0 {
         return refusal(31, k, n);
     }
@@ -191,27 +236,14 @@ fn check_refusal(board: Board, cells: usize, k: usize, asked: Asked) -> Refusal
 
 // Check k tested, and stored with its verdict.
 fn read_check(board: Board, cells: usize, k: usize, asked: Asked, checks: &mut [u8]) -> Refusal
-    requires { ⌜ (1 ≤ k) × (6 * k ≤ length (now checks)) ⌝ }
-    ensures { λ r. ⌜ (r ≡ checkRefusal board cells k asked) × (r .number ≡ 0 → now (checks .exit) ≡ over (now (checks .entry)) (6 * (k - 1)) (storedBytes (judged (board .solution) asked))) ⌝ }
+    requires { ⌜ (1 ≤ k) × (checkBytes * k ≤ length (now checks)) ⌝ }
+    ensures { λ r. ⌜ (r ≡ checkRefusal board cells k asked) × (r .number ≡ 0 → now (checks .exit) ≡ over (now (checks .entry)) (checkBytes * (k - 1)) (storedBytes (judged (board .solution) asked))) ⌝ }
 {
     let r = check_refusal(board, cells, k, asked);
     if r.number != 0 {
         return r;
     }
-    let right = is_right(
-        &board.solution,
-        cell_of(asked.row, asked.column),
-        asked.digit,
-    );
-    write_check(
-        checks,
-        k - 1,
-        asked.standing,
-        asked.row,
-        asked.column,
-        asked.digit,
-        right,
-    );
+    store_check(checks, k - 1, &board.solution, asked);
     r
 }
 
@@ -228,7 +260,7 @@ fn read_checks(bytes: &[u8], start: usize, count: usize, board: Board, checks: &
         if r.number != 0 {
             return r;
         }
-        at += 6;
+        at += CHECK_ITEM;
         k += 1;
     }
     accepted()
@@ -253,8 +285,8 @@ fn settle(
     journal: &[u8],
     checks: &mut [u8],
 ) -> Answer
-    requires { ⌜ (count ≤ maxChecks) × (6 * count ≤ length (now bytes)) × (now checks ≡ noChecks) ⌝ }
-    ensures { λ r. ⌜ Reopens (settledBy undone (asksAt (now (bytes .entry)) (length (now (bytes .entry)) - 6 * count) count) board (now (journal .entry))) r (now (journal .entry)) (now (checks .exit)) ⌝ }
+    requires { ⌜ (count ≤ maxChecks) × (checkItemBytes * count ≤ length (now bytes)) × (now checks ≡ noChecks) ⌝ }
+    ensures { λ r. ⌜ Reopens (settledBy undone (asksAt (now (bytes .entry)) (length (now (bytes .entry)) - checkItemBytes * count) count) board (now (journal .entry))) r (now (journal .entry)) (now (checks .exit)) ⌝ }
 {
     if is_undone_solved(board.solved, undone) {
         return Answer {
@@ -262,8 +294,8 @@ fn settle(
             board: board,
         };
     }
-    let back = take_back_all(undone, board, journal);
-    let r = read_checks(bytes, bytes.len() - 6 * count, count, back, checks);
+    let back = taken_back(undone, board, journal);
+    let r = read_checks(bytes, bytes.len() - CHECK_ITEM * count, count, back, checks);
     if r.number != 0 {
         return Answer {
             refusal: r,
@@ -292,7 +324,7 @@ fn reopened(bytes: &[u8], solution: &[u8], journal: &mut [u8], checks: &mut [u8]
         };
     }
     let board = fresh(bytes, Layout::Items, s.givens, solution);
-    let played = replay(bytes, 4 * s.givens, s.moves, board, journal);
+    let played = replay(bytes, GIVEN_ITEM * s.givens, s.moves, board, journal);
     let unplayed = played.refusal;
     if unplayed.number != 0 {
         return played;

@@ -12,7 +12,7 @@ use Rattle.sudoku.specs.Grid.{cellOf}
 use Rattle.sudoku.proofs.Walks.{refused, passed}
 use Rattle.puzzle.specs.Refusals.{refusal}
 use Rattle.journal.specs.declared.Slot.{Slot}
-use Rattle.journal.specs.State.{State, standsAsLeft, standsAsFound}
+use Rattle.journal.specs.State.{State}
 use Rattle.journal.specs.Slots.{moveOf, digitChange, slotAt, isSound}
 use Rattle.board.specs.declared.Board.{Board}
 use Rattle.board.specs.declared.Answer.{Answer}

@@ -1,51 +1,31 @@
 -- `reopen::read_check` meets its contract.
 -- Assumes nothing.
-use Prim.Native.Nat.{ℕ}
-use mathlib.Core.Path.{ap, _∙_}
-use Rattle.journal.specs.StoredChecks.{isRight}
-use Rattle.reopen.proofs.Checking.{check-stored}
+use mathlib.Core.Path.{_∙_}
+use native.Mathlib.Omega.{arith}
+use Rattle.journal.specs.StoredChecks.{storedBytes}
+use Rattle.journal.proofs.Stores.{laid-over}
+use borrow.Author.Needs.{needs}
 use Rattle.reopen.proofs.read_check.Statement.{statement}
 use Rattle.reopen.proofs.read_check.Tie as tie
-use borrow.Author.Needs.{needs}
 
 check-refusal-requires : tie.Need-check-refusal-requires
 check-refusal-requires c κs = search needs
 
 returns : tie.Need-returns
-returns c =
-    (c .before .before .check-refusal .ensures, λ z. absurd (c .if1 .taken z))
+returns c = (c .before .before .check-refusal .ensures, λ z. absurd (c .if1 .taken z))
 
-cell-of-requires : tie.Need-cell-of-requires
-cell-of-requires c κs = search needs
+sub-store-check : tie.Need-sub-store-check
+sub-store-check c = search needs
 
-is-right-requires : tie.Need-is-right-requires
-is-right-requires c κs = search needs
-
-sub-write-check : tie.Need-sub-write-check
-sub-write-check c = search needs
-
-write-check-requires : tie.Need-write-check-requires
-write-check-requires c κs = search needs
+store-check-requires : tie.Need-store-check-requires
+store-check-requires c κs = search needs
 
 same-length : tie.Need-same-length
 same-length c = search needs
 
 returns-2 : tie.Need-returns-2
-returns-2 c =
-    let a = c .before .before .before .before .before .before .before .before .before .before .before .before .args in
-    let pre = c .before .before .before .before .before .before .before .before .before .before .before .before .pre in
-    let is-right = c .before .before .before .before .is-right in
-    (c .before .before .before .before .before .before .before .before .before .before .check-refusal .ensures, λ z. c .before .before .write-check .ensures ∙ check-stored (a .checks .now) (a .k) (a .t1 .solution) (a .asked) (is-right .result) (pre .0) (pre .1) (is-right .ensures ∙ ap (λ (cell : ℕ). isRight (a .t1 .solution) cell (a .asked .digit)) (c .before .before .before .before .before .cell-of .ensures .0)))
+unfolding storedBytes
+returns-2 c = (c .before .before .before .before .before .before .before .before .check-refusal .ensures, λ z. c .before .before .store-check .ensures .1 ∙ laid-over _ _ _ (omega (arith, c .before .before .before .before .before .before .before .before .before .before .pre .0, c .before .before .before .before .before .before .before .before .before .before .pre .1)))
 
 pub read-check-spec : {M : Type 1} → statement M
-read-check-spec =
-    tie.close
-    (tie.spec
-    check-refusal-requires
-    returns
-    cell-of-requires
-    is-right-requires
-    sub-write-check
-    write-check-requires
-    same-length
-    returns-2)
+read-check-spec = tie.close (tie.spec check-refusal-requires returns sub-store-check store-check-requires same-length returns-2)

@@ -5,11 +5,11 @@ use mathlib.Core.Path.{_≡_, refl, sym, ap, _∙_}
 use mathlib.Core.List.{List}
 use native.Mathlib.Omega.{arith}
 use Rattle.journal.specs.Bytes.{over}
-use Rattle.journal.specs.StoredChecks.{storedBytes}
+use Rattle.journal.specs.StoredChecks.{storedBytes, judged}
 use Rattle.journal.proofs.Memory.{stored-length}
 use Rattle.journal.specs.declared.Asked.{Asked}
 use Rattle.record.specs.Counting.{askedFrom}
-use Rattle.record.specs.Reopen.{toPlay, checksRefusal, judged}
+use Rattle.record.specs.Reopen.{toPlay, checksRefusal}
 use Rattle.record.proofs.Laying.{Laying, laying-start, laying-more, laying-end}
 use Rattle.reopen.proofs.Checking.{asksLeft, asks-all, storedOf, stored-size, stored-turn, check-stops, check-goes-on, check-ends, stored-ends}
 use borrow.Author.Needs.{needs}

@@ -28,8 +28,8 @@ returns c =
     let a = c .before .before .before .before .before .before .args in
     reopens-refused _ _ _ _ (refusal 30 0 0) (settled-30 (a .undone) (asksAt (a .bytes .now) (length (a .bytes .now) - 6 * a .count) (a .count)) (a .board) (a .journal .now) (sym (c .before .before .is-undone-solved .ensures) ∙ c .before .if1 .taken)) (c .refusal .ensures) (eqb-false 30 0 refl)
 
-take-back-all-requires : tie.Need-take-back-all-requires
-take-back-all-requires c κs = search needs
+taken-back-requires : tie.Need-taken-back-requires
+taken-back-requires c κs = search needs
 
 mul-read-checks : tie.Need-mul-read-checks
 mul-read-checks c = search needs
@@ -48,7 +48,7 @@ same-length c = search needs
 returns-2 : tie.Need-returns-2
 returns-2 c =
     let a = c .before .before .before .before .before .before .before .before .before .before .before .before .args in
-    let take-back-all = c .before .before .before .before .before .before .take-back-all in
+    let take-back-all = c .before .before .before .before .before .before .taken-back in
     let read-checks = c .before .before .before .before .read-checks in
     reopens-refused _ _ _ _ (read-checks .result) (settled-refused (a .undone) (asksAt (a .bytes .now) (length (a .bytes .now) - 6 * a .count) (a .count)) (a .board) (a .journal .now) (sym (c .before .before .before .before .before .before .before .before .is-undone-solved .ensures) ∙ c .before .before .before .before .before .before .before .if1 .left) (take-back-all .result) (take-back-all .ensures) (read-checks .result) (read-checks .ensures .0) (c .if2 .taken)) refl (c .if2 .taken)
 
@@ -62,7 +62,7 @@ returns-3 : tie.Need-returns-3
 unfolding boardOf stateOf countsOf
 returns-3 c =
     let a = c .before .before .before .before .before .before .before .before .before .before .before .before .before .args in
-    let take-back-all = c .before .before .before .before .before .before .before .take-back-all in
+    let take-back-all = c .before .before .before .before .before .before .before .taken-back in
     let read-checks = c .before .before .before .before .before .read-checks in
     let accepted = c .accepted in
     reopens-given _ _ _ _
@@ -77,7 +77,7 @@ settle-spec =
     is-undone-solved-requires
     refusal-requires
     returns
-    take-back-all-requires
+    taken-back-requires
     mul-read-checks
     sub-read-checks
     read-checks-requires

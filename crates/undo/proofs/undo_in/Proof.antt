@@ -1,15 +1,12 @@
 -- `undo::undo_in` meets its contract: what is not lent to change stays.
 -- Assumes nothing.
-use Prim.Native.Nat.{ℕ, _+_}
 use mathlib.Core.Path.{_≡_, sym, ap, _∙_}
 use mathlib.Core.Bool.{not, _&&_}
-use Rattle.puzzle.specs.Refusals.{accepted}
 use Rattle.journal.specs.State.{State}
 use Rattle.journal.specs.Counts.{takenBack}
 use Rattle.sudoku.specs.Grid.{cellOf}
 use Rattle.journal.specs.Slots.{slotAt, moveOf, digitChange}
 use Rattle.board.specs.declared.Answer.{Answer}
-use Rattle.board.specs.declared.Board.{Board}
 use Rattle.board.specs.Board.{whole, stateOf, countsOf, boardOf, moved}
 use Rattle.play.specs.Play.{canTakeBack, undone}
 use Rattle.play.proofs.Accepted.{undo-made}

@@ -2,15 +2,14 @@
 -- Assumes nothing.
 use Prim.Native.Nat.{ℕ, _≤_, _+_, _-_}
 use mathlib.Core.Path.{_≡_, refl, sym, ap, _∙_}
-use mathlib.Core.Bool.{Bool, false, not}
 use mathlib.Core.List.{List}
 use native.Mathlib.Omega.{arith}
 use borrow.Author.Needs.{needs}
-use lib.Dec.{leb, eqb}
+use lib.Dec.{leb}
 use lib.ListN.{getD}
-use Rattle.sudoku.specs.Tests.{both, either, every}
+use Rattle.sudoku.specs.Tests.{both, every}
 use Rattle.board.specs.Board.{digitValue}
-use Rattle.board.proofs.Values.{at-next, set-next, turn, at-end}
+use Rattle.board.proofs.Values.{at-next, turn, at-end}
 use Rattle.board.proofs.value.digit_values.Statement.{statement}
 use Rattle.board.proofs.value.digit_values.Tie as tie
 
