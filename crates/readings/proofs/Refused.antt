@@ -12,7 +12,7 @@ use Rattle.sudoku.proofs.Walks.{pick-true, pick-false, both-true, both-false-le
 use Rattle.puzzle.specs.declared.Refusal.{Refusal}
 use Rattle.puzzle.specs.Refusals.{refusal, accepted, isAccepted, refusedIf, orElse}
 use Rattle.puzzle.proofs.Accepted.{if-not}
-use Rattle.puzzle.proofs.Refusals.{refused-if, or-else-refused, or-else-passed, or-else-by, or-else-past}
+use Rattle.puzzle.proofs.Refusals.{refused-if, or-else-refused, or-else-passed}
 use Rattle.board.specs.declared.Board.{Board}
 use Rattle.readings.specs.Reading.{readingRefusal, reading, noReading, readingOf}
 
@@ -28,32 +28,17 @@ module _ (k made : ℕ) where
   pub was-made : (k ≡ 0 → ⊥) → k ≤ made → not (both (leb 1 k) (leb k made)) ≡ false
   was-made n h = ap not (both-true (leb 1 k) (leb k made) (le-leb 1 k (omega (arith, n))) (le-leb k made h))
 
--- ---- 1, 2, what the slots say, 35
+-- ---- 1, 2 and 14, then 35
 
-module _ (one two last : Bool) (slots : Refusal) where
-  abbrev inTurn : Refusal
-  inTurn = orElse (refusedIf one (refusal 1 0 0)) (orElse (refusedIf two (refusal 2 0 0)) (orElse slots (refusedIf last (refusal 35 0 0))))
+module _ (slots : Refusal) (last : Bool) where
+  pub by-slots : (slots .number ≡ 0 → ⊥) → slots ≡ orElse slots (refusedIf last (refusal 35 0 0))
+  by-slots n = sym (or-else-refused slots _ n)
 
-  pub by-1 : one ≡ true → refusal 1 0 0 ≡ inTurn
-  by-1 p = sym (or-else-by _ _ (refusal 1 0 0) (refused-if one (refusal 1 0 0) p) (λ e. omega (arith, e)))
+  pub by-35 : slots .number ≡ 0 → last ≡ true → refusal 35 0 0 ≡ orElse slots (refusedIf last (refusal 35 0 0))
+  by-35 n r = sym (or-else-passed slots _ n ∙ refused-if last (refusal 35 0 0) r)
 
-  past-1 : one ≡ false → inTurn ≡ orElse (refusedIf two (refusal 2 0 0)) (orElse slots (refusedIf last (refusal 35 0 0)))
-  past-1 p = or-else-past _ _ (if-not one (refusal 1 0 0) p)
-
-  pub by-2 : one ≡ false → two ≡ true → refusal 2 0 0 ≡ inTurn
-  by-2 p q = sym (past-1 p ∙ or-else-by _ _ (refusal 2 0 0) (refused-if two (refusal 2 0 0) q) (λ e. omega (arith, e)))
-
-  past-2 : one ≡ false → two ≡ false → inTurn ≡ orElse slots (refusedIf last (refusal 35 0 0))
-  past-2 p q = past-1 p ∙ or-else-past _ _ (if-not two (refusal 2 0 0) q)
-
-  pub by-14 : one ≡ false → two ≡ false → (slots .number ≡ 0 → ⊥) → slots ≡ inTurn
-  by-14 p q n = sym (past-2 p q ∙ or-else-refused slots _ n)
-
-  pub by-35 : one ≡ false → two ≡ false → slots .number ≡ 0 → last ≡ true → refusal 35 0 0 ≡ inTurn
-  by-35 p q n r = sym (past-2 p q ∙ or-else-passed slots _ n ∙ refused-if last (refusal 35 0 0) r)
-
-  pub by-none : one ≡ false → two ≡ false → slots .number ≡ 0 → last ≡ false → accepted ≡ inTurn
-  by-none p q n r = sym (past-2 p q ∙ or-else-passed slots _ n ∙ if-not last (refusal 35 0 0) r)
+  pub by-none : slots .number ≡ 0 → last ≡ false → accepted ≡ orElse slots (refusedIf last (refusal 35 0 0))
+  by-none n r = sym (or-else-passed slots _ n ∙ if-not last (refusal 35 0 0) r)
 
 -- ---- the reading, by the number of its refusal
 

@@ -2,10 +2,9 @@
 use crate::Reading;
 use crate::replay::after;
 use board::Board;
-use board::value::is_board;
 use journal::JOURNAL_BYTES;
 use journal::slots::slot_at;
-use play::sound::first_unsound;
+use play::sound::journal_refusal;
 use puzzle::Refusal;
 use puzzle::answer::accepted;
 use puzzle::answer::refusal;
@@ -16,15 +15,9 @@ ghost use Rattle.readings.specs.Reading.{readingRefusal, reading as read
 fn reading_refusal(board: Board, journal: &[u8], k: usize) -> Refusal
     ensures { λ r. ⌜ r ≡ readingRefusal board (now (journal .entry)) k ⌝ }
 {
-    if journal.len() != JOURNAL_BYTES {
-        return refusal(1, 0, 0);
-    }
-    if !is_board(board) {
-        return refusal(2, 0, 0);
-    }
-    let unsound = first_unsound(&board.given, journal, board.made);
-    if unsound.number != 0 {
-        return unsound;
+    let refused = journal_refusal(board, journal.len() == JOURNAL_BYTES, journal);
+    if refused.number != 0 {
+        return refused;
     }
     if k == 0 {
         return refusal(35, 0, 0);

@@ -1,17 +1,16 @@
 // The board as it stood after slots 1 to k: its givens and empty notes, and then each slot applied as recorded. A place strikes the peers in its mask and no others.
-use undo::digits::digit_again;
-use undo::marks::marks_again;
 use board::Board;
 use journal::slots::is_given;
 use journal::slots::slot_at;
 use puzzle::digit_at;
 use sudoku::CELLS;
+use undo::again_in;
 ghost use mathlib.Core.Path.{_≡_};
 ghost use Rattle.puzzle.specs.Givens.{isSet};
 ghost use Rattle.sudoku.specs.Tests.{pick, listed};
 ghost use Rattle.sudoku.specs.Grid.{at};
 ghost use Rattle.board.specs.Board.{stateOf};
-ghost use Rattle.readings.specs.Reading.{openingOf, applySlot, stateAfter};
+ghost use Rattle.readings.specs.Reading.{openingOf, stateAfter};
 
 // The digit of a cell that is a given; 0 for any other.
 fn given_digit(digits: &[u8; 81], given: &[u8; 81], cell: usize) -> u8
@@ -49,25 +48,21 @@ fn opening(board: Board) -> Board
     start
 }
 
-// The board with slot n applied, as recorded.
-fn with_slot(board: Board, journal: &[u8], n: usize) -> Board
-    ensures { λ r. ⌜ stateOf r ≡ applySlot (now (journal .entry)) (stateOf board) n ⌝ }
-{
-    let slot = slot_at(journal, n);
-    let digits = digit_again(board, slot);
-    marks_again(digits, slot)
-}
-
 // The board after slots 1 to k.
 pub fn after(board: Board, journal: &[u8], k: usize) -> Board
     ensures { λ r. ⌜ stateOf r ≡ stateAfter board (now (journal .entry)) k ⌝ }
 {
-    let mut standing = opening(board);
+    let mut stood = opening(board);
+    let mut digits = stood.digits;
+    let mut notes = stood.notes;
+    let mut solved = stood.solved;
     let mut i: usize = 0;
     while i < k {
-        let next = with_slot(standing, journal, i + 1);
-        standing = next;
+        solved = again_in(&mut digits, &mut notes, solved, slot_at(journal, i + 1));
         i += 1;
     }
-    standing
+    stood.digits = digits;
+    stood.notes = notes;
+    stood.solved = solved;
+    stood
 }

@@ -12,6 +12,7 @@ use board::Board;
 use digits::put_again;
 use digits::put_back;
 use journal::Counts;
+use journal::Slot;
 use journal::slots::is_sound;
 use journal::slots::slot_at;
 use journal::steps::after_retake;
@@ -20,8 +21,13 @@ use marks::give_back;
 use marks::take_again;
 use puzzle::answer::accepted;
 use puzzle::answer::refusal;
+ghost use Prim.Native.Nat.{ℕ};
 ghost use mathlib.Core.Path.{_≡_};
+ghost use mathlib.Core.List.{List};
+ghost use Rattle.journal.specs.State.{performAgain};
+ghost use Rattle.journal.specs.Slots.{moveOf};
 ghost use Rattle.board.specs.Board.{whole};
+ghost use Rattle.play.specs.Parts.{parts};
 ghost use Rattle.play.specs.Play.{undoOf, redoOf};
 
 // Takes back the latest standing move. Refused by 1 2 4 12 14.
@@ -132,4 +138,14 @@ pub fn undo_in<'a>(
     });
     *solved = digit.solved;
     *standing = counts.standing;
+}
+
+// A recorded move performed again on parts that are lent, in place and however they stand; the status afterwards is answered. Readings go so from
+// slot to slot.
+pub fn again_in(digits: &mut [u8; 81], notes: &mut [u16; 81], solved: u8, slot: Slot) -> u8
+    ensures { λ r. ⌜ ((given : List ℕ) → parts given (now (digits .exit)) (now (notes .exit)) r ≡ performAgain (parts given (now (digits .entry)) (now (notes .entry)) solved) (moveOf slot) (slot .struck)) ⌝ }
+{
+    take_again(notes, slot);
+    let digit = put_again(digits, solved, slot);
+    digit.solved
 }

@@ -5,30 +5,41 @@ use mathlib.Core.Path.{_≡_, sym, ap, _∙_}
 use native.Mathlib.Omega.{arith}
 use Rattle.sudoku.specs.Tests.{run}
 use Rattle.sudoku.proofs.Walks.{run-more, run-all}
-use Rattle.journal.specs.State.{State}
+use Rattle.journal.specs.declared.Slot.{Slot}
+use Rattle.journal.specs.State.{State, performAgain}
+use Rattle.journal.specs.Slots.{moveOf}
 use Rattle.board.specs.Board.{stateOf}
+use Rattle.play.specs.Parts.{parts}
 use Rattle.readings.specs.Reading.{applySlot, stateAfter}
 use borrow.Author.Needs.{needs}
 use Rattle.readings.proofs.replay.after.Statement.{statement}
 use Rattle.readings.proofs.replay.after.Tie as tie
 
 abbrev Inv-loop : tie.InvT-loop
-Inv-loop journal k standing₀ i₀ standing i = (i ≤ k) × (run (applySlot journal) (stateOf standing₀) k 1 ≡ run (applySlot journal) (stateOf standing) (k + 1 - (i + 1)) (i + 1))
+Inv-loop journal k stood digits₀ notes₀ solved₀ i₀ digits notes solved i =
+    (i ≤ k)
+    × (run (applySlot journal) (stateOf stood) k 1 ≡ run (applySlot journal) (parts (stood .given) digits notes solved) (k + 1 - (i + 1)) (i + 1))
 
 abbrev μ-loop : tie.MeasureT-loop
-μ-loop journal k standing₀ i₀ standing i = k - i
+μ-loop journal k stood digits₀ notes₀ solved₀ i₀ digits notes solved i = k - i
 
 opening-requires : tie.Need-opening-requires Inv-loop μ-loop
 opening-requires c κs = search needs
 
 loop-holds : tie.Need-loop-holds Inv-loop μ-loop
-loop-holds c = (omega arith, ap (λ (n : ℕ). run (applySlot (c .before .before .args .journal .now)) (stateOf (c .opening .result)) n 1) {x = c .before .before .args .k} {y = c .before .before .args .k + 1 - 1} (omega arith))
+unfolding stateOf
+loop-holds c =
+    let a = c .before .before .before .before .args in
+    (omega arith, ap (λ (n : ℕ). run (applySlot (a .journal .now)) (stateOf (c .before .before .opening .result)) n 1) {x = a .k} {y = a .k + 1 - 1} (omega arith))
 
-add-with-slot : tie.Need-add-with-slot Inv-loop μ-loop
-add-with-slot c = search needs
+add-slot-at : tie.Need-add-slot-at Inv-loop μ-loop
+add-slot-at c = search needs
 
-with-slot-requires : tie.Need-with-slot-requires Inv-loop μ-loop
-with-slot-requires c κs = search needs
+slot-at-requires : tie.Need-slot-at-requires Inv-loop μ-loop
+slot-at-requires c κs = search needs
+
+again-in-requires : tie.Need-again-in-requires Inv-loop μ-loop
+again-in-requires c κs = search needs
 
 add-i : tie.Need-add-i Inv-loop μ-loop
 add-i c = search needs
@@ -37,11 +48,28 @@ loop-less : tie.Need-loop-less Inv-loop μ-loop
 loop-less c = search needs
 
 loop-again : tie.Need-loop-again Inv-loop μ-loop
-loop-again c = (omega arith, c .before .before .loop .inv .1 ∙ run-more (applySlot (c .before .before .before .before .before .args .journal .now)) (stateOf (c .before .before .loop .standing)) (c .before .before .before .before .before .args .k + 1) (c .before .before .loop .i + 1) (omega (arith, c .before .loop-test .taken)) ∙ ap (λ (s : State). run (applySlot (c .before .before .before .before .before .args .journal .now)) s (c .before .before .before .before .before .args .k + 1 - (c .before .before .loop .i + 1 + 1)) (c .before .before .loop .i + 1 + 1)) (sym (c .with-slot .ensures)))
+unfolding applySlot
+loop-again c =
+    let a = c .before .before .before .before .before .before .before .before .before .before .args in
+    let turn = c .before .before .before .before .before .loop in
+    let s = parts (c .before .before .before .before .before .before .before .before .opening .result .given) (turn .digits) (turn .notes) (turn .solved) in
+    let applied = c .again-in .ensures (c .before .before .before .before .before .before .before .before .opening .result .given) ∙ ap (λ (x : Slot). performAgain s (moveOf x) (x .struck)) (c .before .slot-at .ensures) in (
+      omega arith,
+      turn .inv .1
+          ∙ run-more (applySlot (a .journal .now)) s (a .k + 1) (turn .i + 1) (omega (arith, c .before .before .before .before .loop-test .taken))
+          ∙ ap (λ (t : State). run (applySlot (a .journal .now)) t (a .k + 1 - (turn .i + 1 + 1)) (turn .i + 1 + 1)) (sym applied),
+    )
 
 returns : tie.Need-returns Inv-loop μ-loop
-unfolding stateAfter
-returns c = sym (ap (λ (s : State). run (applySlot (c .before .before .before .before .args .journal .now)) s (c .before .before .before .before .args .k) 1) (sym (c .before .before .opening .ensures)) ∙ c .before .loop .inv .1 ∙ run-all (applySlot (c .before .before .before .before .args .journal .now)) (stateOf (c .before .loop .standing)) (c .before .before .before .before .args .k + 1) (c .before .loop .i + 1) (omega (arith, c .loop-test .left)))
+unfolding stateAfter stateOf
+returns c =
+    let a = c .before .before .before .before .before .before .args in
+    let turn = c .before .loop in
+    let s = parts (c .before .before .before .before .opening .result .given) (turn .digits) (turn .notes) (turn .solved) in
+    sym
+    (ap (λ (t : State). run (applySlot (a .journal .now)) t (a .k) 1) (sym (c .before .before .before .before .opening .ensures))
+    ∙ turn .inv .1
+    ∙ run-all (applySlot (a .journal .now)) s (a .k + 1) (turn .i + 1) (omega (arith, c .loop-test .left)))
 
 pub after-spec : {M : Type 1} → statement M
 after-spec =
@@ -51,8 +79,9 @@ after-spec =
     μ-loop
     opening-requires
     loop-holds
-    add-with-slot
-    with-slot-requires
+    add-slot-at
+    slot-at-requires
+    again-in-requires
     add-i
     loop-less
     loop-again
