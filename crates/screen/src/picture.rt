@@ -6,7 +6,7 @@ use puzzle::digit_at;
 use puzzle::holds_digit;
 use sudoku::cell_of;
 ghost use mathlib.Core.Path.{_≡_};
-ghost use Prim.Native.Nat.{_<_, _≤_, _/_, _%_};
+ghost use Prim.Native.Nat.{_<_, _≤_};
 ghost use Rattle.puzzle.specs.Givens.{isSet};
 ghost use Rattle.screen.specs.Picture.{size, figure as figureOf, across as acrossAt, upright as uprightAt, columnLabel};
 ghost use Rattle.screen.specs.Picture.{rowLabel, spotOf, framed as framedAt, placed as placedAt, isCorner, bracketAt};
