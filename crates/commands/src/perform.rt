@@ -1,13 +1,14 @@
 // What each command does: one call of the library, and what it answers shown.
 use crate::Numbers;
-use undo::redo;
-use undo::undo;
 use board::Answer;
 use board::Board;
 use files::disk::save;
 use files::load::load;
+use journal::CHECK_MEMORY;
+use journal::JOURNAL_BYTES;
+use journal::MAX_CHECKS;
+use journal::MAX_MOVES;
 use journal::slots::slot_at;
-use readings::read::reading;
 use play::checks::check;
 use play::moves::erase;
 use play::moves::place;
@@ -26,15 +27,19 @@ use print::shown;
 use print::words::explain;
 use puzzle::answer::refusal;
 use puzzle::digit_at;
+use readings::read::reading;
 use record::write::write;
+use sudoku::CELLS;
 use sudoku::cell_of;
 use texts::Command;
 use texts::commands::NO_NUMBER;
 use texts::commands::value;
 use texts::part;
+use undo::redo;
+use undo::undo;
 
-// The most bytes of a record.
-const RECORD_BYTES: usize = 5955;
+// The most bytes of a record: 80 givens and the moves at four bytes, the undone count at three, the checks at six.
+const RECORD_BYTES: usize = 4 * (CELLS - 1) + 4 * MAX_MOVES + 3 + 6 * MAX_CHECKS;
 
 // What the commands of play want.
 fn wanted_of_play(verb: u8) {
@@ -129,7 +134,7 @@ fn settled(answer: Answer, coloured: bool) -> Board {
 }
 
 // One of the four moves.
-fn played(verb: u8, n: Numbers, board: Board, journal: &mut [u8; 8192]) -> Answer {
+fn played(verb: u8, n: Numbers, board: Board, journal: &mut [u8; JOURNAL_BYTES]) -> Answer {
     match verb {
         b'p' => place(board, journal, n.row, n.column, n.digit),
         b'm' => write_mark(board, journal, n.row, n.column, n.digit),
@@ -150,7 +155,7 @@ fn move_command(
     line: &[u8],
     command: Command,
     board: Board,
-    journal: &mut [u8; 8192],
+    journal: &mut [u8; JOURNAL_BYTES],
     coloured: bool,
 ) -> Board {
     let verb = command.verb;
@@ -163,7 +168,12 @@ fn move_command(
 }
 
 // Undo and redo.
-fn back_command(command: Command, board: Board, journal: &[u8; 8192], coloured: bool) -> Board {
+fn undo_command(
+    command: Command,
+    board: Board,
+    journal: &[u8; JOURNAL_BYTES],
+    coloured: bool,
+) -> Board {
     let verb = command.verb;
     if command.words != 0 {
         wanted(verb);
@@ -179,7 +189,7 @@ fn check_command(
     line: &[u8],
     command: Command,
     board: Board,
-    checks: &mut [u8; 1536],
+    checks: &mut [u8; CHECK_MEMORY],
     coloured: bool,
 ) -> Board {
     let n = numbered(line, command, 2);
@@ -206,7 +216,7 @@ fn check_command(
 }
 
 // The latest standing move.
-fn show_latest(board: Board, journal: &[u8; 8192]) {
+fn show_latest(board: Board, journal: &[u8; JOURNAL_BYTES]) {
     let mut refused: u8 = 0;
     let slot = slot_at(latest(board, journal, &mut refused), 1);
     if refused != 0 {
@@ -217,7 +227,7 @@ fn show_latest(board: Board, journal: &[u8; 8192]) {
 }
 
 // The next move to redo. It is numbered from those that stand, and a board has far fewer than a number holds.
-fn show_next(board: Board, journal: &[u8; 8192]) {
+fn show_next(board: Board, journal: &[u8; JOURNAL_BYTES]) {
     let mut refused: u8 = 0;
     let slot = slot_at(next(board, journal, &mut refused), 1);
     let standing = board.standing;
@@ -231,7 +241,13 @@ fn show_next(board: Board, journal: &[u8; 8192]) {
 }
 
 // The reading of move k.
-fn read_move(line: &[u8], command: Command, board: Board, journal: &[u8; 8192], coloured: bool) {
+fn read_move(
+    line: &[u8],
+    command: Command,
+    board: Board,
+    journal: &[u8; JOURNAL_BYTES],
+    coloured: bool,
+) {
     let k = value(line, command.first);
     if command.words != 1 {
         wanted(b'k');
@@ -266,8 +282,8 @@ fn save_command(
     line: &[u8],
     command: Command,
     board: Board,
-    journal: &[u8; 8192],
-    checks: &[u8; 1536],
+    journal: &[u8; JOURNAL_BYTES],
+    checks: &[u8; CHECK_MEMORY],
 ) {
     if command.words != 1 {
         wanted(b'w');
@@ -288,8 +304,8 @@ fn open_command(
     line: &[u8],
     command: Command,
     board: Board,
-    journal: &mut [u8; 8192],
-    checks: &mut [u8; 1536],
+    journal: &mut [u8; JOURNAL_BYTES],
+    checks: &mut [u8; CHECK_MEMORY],
     coloured: bool,
 ) -> Board {
     if command.words < 1 {
@@ -322,7 +338,13 @@ fn stands_alone(verb: u8) -> bool {
 }
 
 // The commands that show something and change nothing.
-fn show_command(line: &[u8], command: Command, board: Board, journal: &[u8; 8192], coloured: bool) {
+fn show_command(
+    line: &[u8],
+    command: Command,
+    board: Board,
+    journal: &[u8; JOURNAL_BYTES],
+    coloured: bool,
+) {
     let verb = command.verb;
     if verb == b'k' {
         read_move(line, command, board, journal, coloured);
@@ -350,14 +372,14 @@ pub fn perform(
     line: &[u8],
     command: Command,
     board: Board,
-    journal: &mut [u8; 8192],
-    checks: &mut [u8; 1536],
+    journal: &mut [u8; JOURNAL_BYTES],
+    checks: &mut [u8; CHECK_MEMORY],
     coloured: bool,
 ) -> Board {
     let verb = command.verb;
     match verb {
         b'p' | b'm' | b's' | b'e' => move_command(line, command, board, journal, coloured),
-        b'u' | b'r' => back_command(command, board, journal, coloured),
+        b'u' | b'r' => undo_command(command, board, journal, coloured),
         b'c' => check_command(line, command, board, checks, coloured),
         b'o' => open_command(line, command, board, journal, checks, coloured),
         b'w' => {

@@ -1,5 +1,6 @@
 // Files, read and written whole.
 use crate::Got;
+use libc::PATH_MAX;
 use print::number;
 use print::say;
 use print::shown;
@@ -9,7 +10,7 @@ use texts::grids::cells;
 use texts::part;
 ghost use Prim.Native.Nat.{_≤_};
 
-// More than any puzzle or record has.
+// Bytes of the buffer that a file is read into: more than any puzzle or record has.
 pub const FILE_BYTES: usize = 8192;
 
 // Why the last call failed, in plain words.
@@ -75,7 +76,7 @@ fn advanced(buffer: &[u8], at: usize, got: isize) -> usize {
 }
 
 // Reads to the end of the file, or until the buffer is full. Every turn but the last brings a byte.
-fn read_all(fd: i32, buffer: &mut [u8; 8192]) -> Got {
+fn read_all(fd: i32, buffer: &mut [u8; FILE_BYTES]) -> Got {
     let mut at: usize = 0;
     let mut turns: usize = FILE_BYTES + 1;
     while turns > 0 {
@@ -102,7 +103,7 @@ fn read_all(fd: i32, buffer: &mut [u8; 8192]) -> Got {
 }
 
 // Reads a file whole. One that fills the buffer is longer than any puzzle or record.
-pub fn read(path: &[u8], buffer: &mut [u8; 8192]) -> Got {
+pub fn read(path: &[u8], buffer: &mut [u8; FILE_BYTES]) -> Got {
     let nothing = Got {
         good: false,
         length: 0,
@@ -151,7 +152,7 @@ pub fn is_whole(path: &[u8], found: Cells) -> bool {
 }
 
 // The cells of a file that was read; none where it is not whole.
-fn whole_cells(path: &[u8], file: &[u8; 8192], length: usize) -> Cells {
+fn whole_cells(path: &[u8], file: &[u8; FILE_BYTES], length: usize) -> Cells {
     let found = cells(part(file, 0, length));
     if is_whole(path, found) {
         return found;
@@ -177,7 +178,8 @@ pub fn read_cells(path: &[u8]) -> Cells {
     no_cells()
 }
 
-// Whether the name is free, or is that of a plain file that may be written. A device answers no to fsync, and is not to be replaced.
+// Whether the name is free, or is that of a plain file that may be written. A device answers no to fsync, and is not
+// to be replaced.
 fn is_replaceable(path: &[u8]) -> bool {
     let fd = os::open_update(path);
     if fd < 0 {
@@ -200,10 +202,10 @@ fn name_byte(path: &[u8], i: usize) -> u8 {
 }
 
 // The first `length` characters of the new file's name.
-fn new_name(path: &[u8], length: usize) -> [u8; 4096]
+fn new_name(path: &[u8], length: usize) -> [u8; PATH_MAX]
     requires { ⌜ length ≤ 4096 ⌝ }
 {
-    let mut name = [0u8; 4096];
+    let mut name = [0u8; PATH_MAX];
     let mut i: usize = 0;
     while i < length {
         name[i] = name_byte(path, i);
@@ -251,7 +253,8 @@ fn save_as(new: &mut [u8], path: &[u8], bytes: &[u8]) -> bool {
     replace(fd, new, path, bytes)
 }
 
-// Saves bytes under a name: they are written to a new file beside it, which then takes its place. Until then an earlier file of that name stays whole.
+// Saves bytes under a name: they are written to a new file beside it, which then takes its place. Until then an earlier
+// file of that name stays whole.
 pub fn save(path: &[u8], bytes: &[u8]) -> bool {
     if !is_replaceable(path) {
         failed(b"cannot write ", path);

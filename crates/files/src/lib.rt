@@ -1,4 +1,6 @@
-// Files of the console and the referee: read whole, opened as puzzles and records, and a file that takes another's place only once it is written. No contract can say what a file holds; each function says on standard output what went wrong.
+// Files of the console and the referee: read whole, opened as puzzles and records, and a file that takes another's
+// place only once it is written. No contract can say what a file holds; each function says on standard output what went
+// wrong.
 use board::Board;
 
 pub mod disk;

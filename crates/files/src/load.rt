@@ -1,11 +1,14 @@
 // A puzzle and its solution, or a record, from files. The board that is being played stays until another one is open.
 use crate::Loaded;
+use crate::disk::FILE_BYTES;
 use crate::disk::is_whole;
 use crate::disk::read;
 use crate::disk::read_cells;
 use board::Answer;
 use board::open::open;
 use board::open::zero_board;
+use journal::CHECK_MEMORY;
+use journal::JOURNAL_BYTES;
 use print::words::explain;
 use puzzle::byte_at;
 use reopen::reopen;
@@ -41,8 +44,8 @@ fn open_givens(
     bytes: &[u8; 243],
     length: usize,
     right: &[u8; 81],
-    journal: &mut [u8; 8192],
-    checks: &mut [u8; 1536],
+    journal: &mut [u8; JOURNAL_BYTES],
+    checks: &mut [u8; CHECK_MEMORY],
 ) -> Answer
     ensures { λ r. ⌜ Gives (openOf (partOf (now (bytes .entry)) 0 length) (now (right .entry)) (now (journal .entry)) (now (checks .entry))) r (now (journal .exit)) (now (checks .exit)) ⌝ }
 {
@@ -53,8 +56,8 @@ fn open_givens(
 fn open_puzzle(
     puzzle: [u8; 81],
     right: &[u8; 81],
-    journal: &mut [u8; 8192],
-    checks: &mut [u8; 1536],
+    journal: &mut [u8; JOURNAL_BYTES],
+    checks: &mut [u8; CHECK_MEMORY],
 ) -> Answer
     ensures { λ r. ⌜ Gives (openOf (givenBytes puzzle) (now (right .entry)) (now (journal .entry)) (now (checks .entry))) r (now (journal .exit)) (now (checks .exit)) ⌝ }
 {
@@ -66,8 +69,8 @@ fn open_puzzle(
 pub fn open_bytes(
     bytes: &[u8],
     right: &[u8; 81],
-    journal: &mut [u8; 8192],
-    checks: &mut [u8; 1536],
+    journal: &mut [u8; JOURNAL_BYTES],
+    checks: &mut [u8; CHECK_MEMORY],
 ) -> Answer
     ensures { λ r. ⌜ Gives (openBytes (now (bytes .entry)) (now (right .entry)) (now (journal .entry)) (now (checks .entry))) r (now (journal .exit)) (now (checks .exit)) ⌝ }
 {
@@ -83,11 +86,11 @@ pub fn open_bytes(
 fn open_apart(
     bytes: &[u8],
     right: &[u8; 81],
-    journal: &mut [u8; 8192],
-    checks: &mut [u8; 1536],
+    journal: &mut [u8; JOURNAL_BYTES],
+    checks: &mut [u8; CHECK_MEMORY],
 ) -> Loaded {
-    let mut own_journal = [0u8; 8192];
-    let mut own_checks = [0u8; 1536];
+    let mut own_journal = [0u8; JOURNAL_BYTES];
+    let mut own_checks = [0u8; CHECK_MEMORY];
     let answer = open_bytes(bytes, right, &mut own_journal, &mut own_checks);
     let refused = answer.refusal;
     if refused.number != 0 {
@@ -114,11 +117,11 @@ fn is_openable(path: &[u8], bytes: &[u8]) -> bool {
 // What the first bytes of a file hold, with a solution.
 fn load_file(
     path: &[u8],
-    file: &[u8; 8192],
+    file: &[u8; FILE_BYTES],
     length: usize,
     right: &[u8; 81],
-    journal: &mut [u8; 8192],
-    checks: &mut [u8; 1536],
+    journal: &mut [u8; JOURNAL_BYTES],
+    checks: &mut [u8; CHECK_MEMORY],
 ) -> Loaded {
     let bytes = part(file, 0, length);
     if !is_openable(path, bytes) {
@@ -131,10 +134,10 @@ fn load_file(
 fn load_with(
     path: &[u8],
     right: &[u8; 81],
-    journal: &mut [u8; 8192],
-    checks: &mut [u8; 1536],
+    journal: &mut [u8; JOURNAL_BYTES],
+    checks: &mut [u8; CHECK_MEMORY],
 ) -> Loaded {
-    let mut file = [0u8; 8192];
+    let mut file = [0u8; FILE_BYTES];
     let got = read(path, &mut file);
     if !got.good {
         return nothing();
@@ -147,8 +150,8 @@ pub fn load(
     path: &[u8],
     solution: &[u8],
     at_hand: &[u8; 81],
-    journal: &mut [u8; 8192],
-    checks: &mut [u8; 1536],
+    journal: &mut [u8; JOURNAL_BYTES],
+    checks: &mut [u8; CHECK_MEMORY],
 ) -> Loaded {
     if solution.len() == 0 {
         return load_with(path, at_hand, journal, checks);

@@ -8,6 +8,7 @@ use screen::picture::SIZE;
 use screen::picture::colours;
 use screen::picture::picture;
 ghost use Prim.Native.Nat.{_<_, _≤_};
+ghost use Rattle.screen.specs.Picture.{size};
 
 // The escape that turns a colour on, and all others off.
 fn escape(colour: u8) {
@@ -21,9 +22,9 @@ fn escape(colour: u8) {
 }
 
 // Where the colour changes after `start`. A blank shows none, so it changes none.
-fn run_end(signs: &[u8; 2379], colours: &[u8; 2379], start: usize) -> usize
-    requires { ⌜ start < 2379 ⌝ }
-    ensures { λ r. ⌜ (start < r) × (r ≤ 2379) ⌝ }
+fn run_end(signs: &[u8; SIZE], colours: &[u8; SIZE], start: usize) -> usize
+    requires { ⌜ start < size ⌝ }
+    ensures { λ r. ⌜ (start < r) × (r ≤ size) ⌝ }
 {
     let mut end = start + 1;
     while end < SIZE {
@@ -38,9 +39,9 @@ fn run_end(signs: &[u8; 2379], colours: &[u8; 2379], start: usize) -> usize
 }
 
 // The characters from `start` on that have one colour; answers where they end.
-fn paint_run(signs: &[u8; 2379], colours: &[u8; 2379], start: usize) -> usize
-    requires { ⌜ start < 2379 ⌝ }
-    ensures { λ r. ⌜ (start < r) × (r ≤ 2379) ⌝ }
+fn paint_run(signs: &[u8; SIZE], colours: &[u8; SIZE], start: usize) -> usize
+    requires { ⌜ start < size ⌝ }
+    ensures { λ r. ⌜ (start < r) × (r ≤ size) ⌝ }
 {
     let end = run_end(signs, colours, start);
     escape(colours[start]);
@@ -50,7 +51,7 @@ fn paint_run(signs: &[u8; 2379], colours: &[u8; 2379], start: usize) -> usize
 }
 
 // A drawn board in its colours.
-fn paint(signs: &[u8; 2379], colours: &[u8; 2379]) {
+fn paint(signs: &[u8; SIZE], colours: &[u8; SIZE]) {
     let mut n: usize = 0;
     while n < SIZE {
         n = paint_run(signs, colours, n);

@@ -3,8 +3,12 @@ use crate::story::one_move;
 use crate::story::whole;
 use board::open::zero_board;
 use files::Loaded;
+use files::disk::FILE_BYTES;
 use files::disk::read;
 use files::disk::read_cells;
+use journal::CHECK_MEMORY;
+use journal::JOURNAL_BYTES;
+use libc::PATH_MAX;
 use print::say;
 use print::words::explain;
 use reopen::reopen;
@@ -26,8 +30,8 @@ RECORD is a saved game, SOLUTION a text of 81 digits; blanks and line ends in it
 fn reopened(
     record: &[u8],
     right: &[u8; 81],
-    journal: &mut [u8; 8192],
-    checks: &mut [u8; 1536],
+    journal: &mut [u8; JOURNAL_BYTES],
+    checks: &mut [u8; CHECK_MEMORY],
 ) -> Loaded {
     let answer = reopen(record, right, journal, checks);
     let refused = answer.refusal;
@@ -48,11 +52,11 @@ fn reopened(
 
 // The record in the first bytes of a file that was read.
 fn reopened_bytes(
-    file: &[u8; 8192],
+    file: &[u8; FILE_BYTES],
     length: usize,
     right: &[u8; 81],
-    journal: &mut [u8; 8192],
-    checks: &mut [u8; 1536],
+    journal: &mut [u8; JOURNAL_BYTES],
+    checks: &mut [u8; CHECK_MEMORY],
 ) -> Loaded {
     reopened(part(file, 0, length), right, journal, checks)
 }
@@ -61,10 +65,10 @@ fn reopened_bytes(
 fn reopened_file(
     path: &[u8],
     right: &[u8; 81],
-    journal: &mut [u8; 8192],
-    checks: &mut [u8; 1536],
+    journal: &mut [u8; JOURNAL_BYTES],
+    checks: &mut [u8; CHECK_MEMORY],
 ) -> Loaded {
-    let mut file = [0u8; 8192];
+    let mut file = [0u8; FILE_BYTES];
     let got = read(path, &mut file);
     if got.good {
         return reopened_bytes(&file, got.length, right, journal, checks);
@@ -77,8 +81,8 @@ fn reopened_file(
 
 // The record judged: whole, or one move of it where k is a number.
 fn judge(path: &[u8], right: &[u8; 81], k: usize) {
-    let mut journal = [0u8; 8192];
-    let mut checks = [0u8; 1536];
+    let mut journal = [0u8; JOURNAL_BYTES];
+    let mut checks = [0u8; CHECK_MEMORY];
     let loaded = reopened_file(path, right, &mut journal, &mut checks);
     if !loaded.good {
         return;
@@ -117,7 +121,7 @@ fn with_solution(k: usize) {
 }
 
 // The number that the first bytes of a text say.
-fn number_in(text: &[u8; 4096], length: usize) -> usize {
+fn number_in(text: &[u8; PATH_MAX], length: usize) -> usize {
     value(
         text,
         Word {

@@ -1,10 +1,10 @@
 // What a record that reopens tells: its puzzle, every move, every check, and the board that it leaves.
 use board::Board;
 use journal::CHECK_BYTES;
+use journal::CHECK_MEMORY;
+use journal::JOURNAL_BYTES;
 use journal::MAX_CHECKS;
 use journal::slots::slot_at;
-use readings::read::reading;
-use readings::replay::after;
 use print::counted;
 use print::deeds::made;
 use print::deeds::verdict;
@@ -13,17 +13,19 @@ use print::number;
 use print::say;
 use print::words::explain;
 use puzzle::byte_at;
+use readings::read::reading;
+use readings::replay::after;
 use sudoku::wide;
 
 // The givens alone, as the board stood before the first move.
-fn puzzle(board: Board, journal: &[u8; 8192]) {
+fn puzzle(board: Board, journal: &[u8; JOURNAL_BYTES]) {
     let fresh = after(board, journal, 0);
     say(b"the puzzle\n");
     position(&fresh.digits, &fresh.given, &fresh.notes, false);
 }
 
 // Every move that was made, with what it displaced and whether it is undone.
-fn moves_made(journal: &[u8; 8192], count: usize, standing: usize) {
+fn moves_made(journal: &[u8; JOURNAL_BYTES], count: usize, standing: usize) {
     let mut i: usize = 0;
     while i < count {
         made(i + 1, slot_at(journal, i + 1), standing < i + 1);
@@ -32,7 +34,7 @@ fn moves_made(journal: &[u8; 8192], count: usize, standing: usize) {
 }
 
 // The check behind i others, as it is stored: standing (two bytes, low first), row, column, digit, verdict.
-fn check_stored(checks: &[u8; 1536], i: usize) {
+fn check_stored(checks: &[u8; CHECK_MEMORY], i: usize) {
     if i >= MAX_CHECKS {
         return;
     }
@@ -52,7 +54,7 @@ fn check_stored(checks: &[u8; 1536], i: usize) {
 }
 
 // Every check that is stored.
-fn checks_stored(checks: &[u8; 1536], count: usize) {
+fn checks_stored(checks: &[u8; CHECK_MEMORY], count: usize) {
     let mut i: usize = 0;
     while i < count {
         check_stored(checks, i);
@@ -72,7 +74,7 @@ fn final_board(board: Board) {
 }
 
 // The whole record.
-pub fn whole(board: Board, journal: &[u8; 8192], checks: &[u8; 1536]) {
+pub fn whole(board: Board, journal: &[u8; JOURNAL_BYTES], checks: &[u8; CHECK_MEMORY]) {
     puzzle(board, journal);
     counted(board.made, b" move was made, ", b" moves were made, ");
     counted(board.standing, b" stands\n", b" stand\n");
@@ -83,7 +85,7 @@ pub fn whole(board: Board, journal: &[u8; 8192], checks: &[u8; 1536]) {
 }
 
 // The reading of move k: what it did, and the board as it stood after it.
-pub fn one_move(board: Board, journal: &[u8; 8192], k: usize) {
+pub fn one_move(board: Board, journal: &[u8; JOURNAL_BYTES], k: usize) {
     let r = reading(board, journal, k);
     let refused = r.refusal;
     if refused.number != 0 {

@@ -1,15 +1,16 @@
--- The drawn board: 39 lines of 61 characters, the last of each its end. The frame of the grid begins at line 1 and column 3; the numbers of the columns stand above and below it, those of the rows left and right.
--- A cell has three lines of five characters, a blank at either side of its nine spots. Heavier lines stand around the boxes.
+-- The drawn board: 39 lines of 61 characters, the last of each its end. The frame of the grid begins at line 1 and
+-- column 3; the numbers of the columns stand above and below it, those of the rows left and right. A cell has three
+-- lines of five characters, a blank at either side of its nine spots. Heavier lines stand around the boxes.
 -- Assumes nothing.
 use Prim.Native.Nat.{ℕ, _+_, _-_, _*_, _/_, _%_}
-use mathlib.Core.Bool.{Bool, true, false}
+use mathlib.Core.Bool.{Bool}
 use mathlib.Core.List.{List}
 use lib.Dec.{ltb, leb, eqb}
 use Rattle.sudoku.specs.Tests.{pick, both, either, listed}
 use Rattle.sudoku.specs.Grid.{cellOf, at}
 use Rattle.note.specs.Note.{contains, isEmpty}
 use Rattle.puzzle.specs.Puzzle.{holdsDigit, conflicts}
-use Rattle.journal.specs.State.{givensOnly, isGiven}
+use Rattle.puzzle.specs.Givens.{isSet}
 use Rattle.screen.specs.declared.Spot.{Spot}
 use Rattle.screen.specs.declared.Spot.the-variants.{Frame, Inside}
 
@@ -43,7 +44,8 @@ givenRight = 93  -- ]
 unfoldable pub figure : ℕ → ℕ
 figure n = pick (leb n 9) (48 + n) 63
 
--- a line across, at line y of the frame: # where a heavier line stands upright, + where a lighter one does, else = around a box and - within it
+-- a line across, at line y of the frame: # where a heavier line stands upright, + where a lighter one does, else =
+-- around a box and - within it
 unfoldable pub across : ℕ → ℕ → ℕ
 across y x = pick (eqb (x % 18) 0) 35 (pick (eqb (x % 6) 0) 43 (pick (eqb (y % 12) 0) 61 45))
 
@@ -58,7 +60,8 @@ columnLabel x = pick (eqb x 0) blank (pick (eqb (x % 6) 0) (figure (x / 6)) blan
 unfoldable pub rowLabel : ℕ → ℕ → ℕ
 rowLabel y x = pick (both (eqb (y % 4) 2) (either (eqb x 1) (eqb x 59))) (figure (y / 4 + 1)) blank
 
--- which spot of a cell its line i, from 1 to 3, has at column j, from 1 to 5: 1 to 9, as marks are, and 0 for the blanks at the sides
+-- which spot of a cell its line i, from 1 to 3, has at column j, from 1 to 5: 1 to 9, as marks are, and 0 for the
+-- blanks at the sides
 unfoldable pub spotOf : ℕ → ℕ → ℕ
 spotOf i j = pick (both (leb 2 j) (leb j 4)) (3 * (i - 1) + (j - 1)) 0
 
@@ -85,7 +88,8 @@ isCorner spot = either (eqb spot 1) (either (eqb spot 3) (either (eqb spot 7) (e
 unfoldable pub bracketAt : ℕ → ℕ
 bracketAt spot = pick (eqb spot 4) givenLeft (pick (eqb spot 6) givenRight blank)
 
--- a cell that holds a digit: the digit in the middle, ! at the corners where the cell conflicts, brackets where it is a given
+-- a cell that holds a digit: the digit in the middle, ! at the corners where the cell conflicts, brackets where it
+-- is a given
 unfoldable pub digitSign : ℕ → Bool → Bool → ℕ → ℕ
 digitSign digit given clash spot =
     pick (eqb spot 5) (figure digit)
@@ -100,7 +104,7 @@ markSign note spot = pick (contains note spot) (figure spot) (pick (either (eqb 
 unfoldable pub cellSign : List ℕ → List ℕ → List ℕ → ℕ → ℕ → ℕ
 cellSign digits given notes cell spot =
     pick (holdsDigit digits cell)
-    (digitSign (at digits cell) (isGiven (givensOnly given) cell) (conflicts digits cell) spot)
+    (digitSign (at digits cell) (isSet given cell) (conflicts digits cell) spot)
     (markSign (at notes cell) spot)
 
 unfoldable pub signAt : List ℕ → List ℕ → List ℕ → Spot → ℕ
@@ -119,7 +123,7 @@ pictureOf digits given notes = listed (signOf digits given notes) size 0
 unfoldable pub cellColour : List ℕ → List ℕ → ℕ → ℕ
 cellColour digits given cell =
     pick (holdsDigit digits cell)
-    (pick (conflicts digits cell) 3 (pick (isGiven (givensOnly given) cell) 1 2))
+    (pick (conflicts digits cell) 3 (pick (isSet given cell) 1 2))
     4
 
 unfoldable pub colourAt : List ℕ → List ℕ → Spot → ℕ

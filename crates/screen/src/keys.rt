@@ -2,8 +2,8 @@
 use crate::picture::figure;
 use puzzle::digits_left;
 ghost use mathlib.Core.Path.{_≡_};
-ghost use Prim.Native.Nat.{_<_, _≤_};
-ghost use Rattle.screen.specs.Keys.{heading as headingOf, keyPart, keySign, keypadOf};
+ghost use Prim.Native.Nat.{_<_};
+ghost use Rattle.screen.specs.Keys.{keyPart, keySign, keypadOf};
 
 // Two blanks, the key, a colon, and the digits left for it.
 fn key_part(digits: &[u8; 81], key: u8, i: usize) -> u8

@@ -1,14 +1,16 @@
 // The drawn board, character by character.
 use crate::Spot;
 use journal::notes::note_at;
-use journal::slots::is_given;
 use puzzle::conflicts;
 use puzzle::digit_at;
 use puzzle::holds_digit;
 use sudoku::cell_of;
 ghost use mathlib.Core.Path.{_≡_};
-ghost use Prim.Native.Nat.{_<_, _≤_, _/_, _%_};
-ghost use Rattle.screen.specs.Picture.{figure as figureOf, across as acrossAt, upright as uprightAt, columnLabel, rowLabel, spotOf, framed as framedAt, placed as placedAt, isCorner, bracketAt, digitSign, markSign, cellSign, signAt, signOf, pictureOf, cellColour, colourAt, colourOf, coloursOf};
+ghost use Prim.Native.Nat.{_<_, _≤_};
+ghost use Rattle.puzzle.specs.Givens.{isSet};
+ghost use Rattle.screen.specs.Picture.{size, figure as figureOf, across as acrossAt, upright as uprightAt, columnLabel};
+ghost use Rattle.screen.specs.Picture.{rowLabel, spotOf, framed as framedAt, placed as placedAt, isCorner, bracketAt};
+ghost use Rattle.screen.specs.Picture.{digitSign, markSign, cellSign, signOf, pictureOf, cellColour, colourOf, coloursOf};
 
 // Characters to a line, its end with them.
 pub const WIDTH: usize = 61;
@@ -200,6 +202,13 @@ fn mark_sign(note: u16, spot: u8) -> u8
     b'.'
 }
 
+// Whether the flag of a cell is set.
+fn is_set(flags: &[u8; 81], cell: usize) -> bool
+    ensures { λ r. ⌜ r ≡ isSet (now (flags .entry)) cell ⌝ }
+{
+    digit_at(flags, cell) != 0
+}
+
 // A spot of a cell. A note under a digit is kept and not shown.
 fn cell_sign<'a>(
     digits: &'a [u8; 81],
@@ -213,7 +222,7 @@ fn cell_sign<'a>(
     if holds_digit(digits, cell) {
         return digit_sign(
             digit_at(digits, cell),
-            is_given(given, cell),
+            is_set(given, cell),
             conflicts(digits, cell),
             spot,
         );
@@ -223,7 +232,7 @@ fn cell_sign<'a>(
 
 // Character n of the drawn board.
 fn sign<'a>(digits: &'a [u8; 81], given: &'a [u8; 81], notes: &'a [u16; 81], n: usize) -> u8
-    requires { ⌜ n < 2379 ⌝ }
+    requires { ⌜ n < size ⌝ }
     ensures { λ r. ⌜ r ≡ signOf (now (digits .entry)) (now (given .entry)) (now (notes .entry)) n ⌝ }
 {
     let place = placed(n / WIDTH, n % WIDTH);
@@ -234,7 +243,7 @@ fn sign<'a>(digits: &'a [u8; 81], given: &'a [u8; 81], notes: &'a [u16; 81], n: 
 }
 
 // The drawn board.
-pub fn picture<'a>(digits: &'a [u8; 81], given: &'a [u8; 81], notes: &'a [u16; 81]) -> [u8; 2379]
+pub fn picture<'a>(digits: &'a [u8; 81], given: &'a [u8; 81], notes: &'a [u16; 81]) -> [u8; SIZE]
     ensures { λ r. ⌜ r ≡ pictureOf (now (digits .entry)) (now (given .entry)) (now (notes .entry)) ⌝ }
 {
     let mut out = [0u8; SIZE];
@@ -256,7 +265,7 @@ fn cell_colour<'a>(digits: &'a [u8; 81], given: &'a [u8; 81], cell: usize) -> u8
     if conflicts(digits, cell) {
         return 3;
     }
-    if is_given(given, cell) {
+    if is_set(given, cell) {
         return 1;
     }
     2
@@ -264,7 +273,7 @@ fn cell_colour<'a>(digits: &'a [u8; 81], given: &'a [u8; 81], cell: usize) -> u8
 
 // The colour of character n of the drawn board.
 fn colour<'a>(digits: &'a [u8; 81], given: &'a [u8; 81], n: usize) -> u8
-    requires { ⌜ n < 2379 ⌝ }
+    requires { ⌜ n < size ⌝ }
     ensures { λ r. ⌜ r ≡ colourOf (now (digits .entry)) (now (given .entry)) n ⌝ }
 {
     let place = placed(n / WIDTH, n % WIDTH);
@@ -275,7 +284,7 @@ fn colour<'a>(digits: &'a [u8; 81], given: &'a [u8; 81], n: usize) -> u8
 }
 
 // The colour of each character of the drawn board.
-pub fn colours<'a>(digits: &'a [u8; 81], given: &'a [u8; 81]) -> [u8; 2379]
+pub fn colours<'a>(digits: &'a [u8; 81], given: &'a [u8; 81]) -> [u8; SIZE]
     ensures { λ r. ⌜ r ≡ coloursOf (now (digits .entry)) (now (given .entry)) ⌝ }
 {
     let mut out = [0u8; SIZE];

@@ -4,11 +4,13 @@ use crate::Line;
 use libc::STDIN_FILENO;
 use puzzle::byte_at;
 
+// Bytes of input that are read at once: a buffer of crate io.
+pub const INPUT_BYTES: usize = 4096;
 // The most bytes of a line that is taken.
 pub const LINE_BYTES: usize = 256;
 
 // The next byte of those that were read.
-fn taken(buffer: &[u8; 4096], at: usize, end: usize) -> Byte {
+fn taken(buffer: &[u8; INPUT_BYTES], at: usize, end: usize) -> Byte {
     if at < end {
         return Byte {
             at: at + 1,
@@ -26,7 +28,7 @@ fn taken(buffer: &[u8; 4096], at: usize, end: usize) -> Byte {
 }
 
 // The next byte of the input, read anew where all that were read are used.
-fn next_byte(buffer: &mut [u8; 4096], at: usize, end: usize) -> Byte {
+fn next_byte(buffer: &mut [u8; INPUT_BYTES], at: usize, end: usize) -> Byte {
     if at < end {
         return taken(buffer, at, end);
     }
@@ -36,7 +38,7 @@ fn next_byte(buffer: &mut [u8; 4096], at: usize, end: usize) -> Byte {
 }
 
 // A byte at the end of a line; what finds no room is dropped, and the line is too long.
-fn put(line: &mut [u8; 256], n: usize, byte: u8) -> usize {
+fn put(line: &mut [u8; LINE_BYTES], n: usize, byte: u8) -> usize {
     if n < LINE_BYTES {
         line[n] = byte;
         return n + 1;
@@ -53,8 +55,14 @@ fn line_of(b: Byte, length: usize, ended: bool) -> Line {
     }
 }
 
-// The next line. A proved loop has to end, and nothing says that a line does, so the loop counts its turns down from a number that no line uses up.
-pub fn read_line(buffer: &mut [u8; 4096], at: usize, end: usize, line: &mut [u8; 256]) -> Line {
+// The next line. A proved loop has to end, and nothing says that a line does, so the loop counts its turns down from a
+// number that no line uses up.
+pub fn read_line(
+    buffer: &mut [u8; INPUT_BYTES],
+    at: usize,
+    end: usize,
+    line: &mut [u8; LINE_BYTES],
+) -> Line {
     let mut turns = u64::MAX;
     let mut n: usize = 0;
     let mut b = Byte {

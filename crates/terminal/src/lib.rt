@@ -1,4 +1,5 @@
-// The console: a board played in a terminal, line by line. Thin: every answer is the library's, every picture and every refusal's words are the screen's.
+// The console: a board played in a terminal, line by line. Thin: every answer is the library's, every picture is made
+// in crate screen, and every refusal's words stand in crate print.
 use board::Board;
 
 mod input;
@@ -6,7 +7,8 @@ mod start;
 
 pub use start::run;
 
-// What goes from one line to the next: the board, what of the input is read and not used, and how the console was started.
+// What goes from one line to the next: the board, what of the input is read and not used, and how the console was
+// started.
 pub struct Table {
     pub board: Board,
     pub at: usize,
@@ -16,7 +18,8 @@ pub struct Table {
     pub over: bool,
 }
 
-// A line that was read: how long it is, more than a line may have where it was cut, and whether the input ended instead.
+// A line that was read: how long it is, more than a line may have where it was cut, and whether the input ended
+// instead.
 pub struct Line {
     pub at: usize,
     pub end: usize,
@@ -32,7 +35,8 @@ pub struct Byte {
     pub ended: bool,
 }
 
-// What the console was started with: the lengths of the two names, how to colour (0 where the output is a terminal, 1 always, 2 never), and whether something was wrong.
+// What the console was started with: the lengths of the two names, how to colour (0 where the output is a terminal, 1
+// always, 2 never), and whether something was wrong.
 pub struct Args {
     pub first: usize,
     pub second: usize,

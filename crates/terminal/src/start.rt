@@ -2,6 +2,7 @@
 use crate::Args;
 use crate::Line;
 use crate::Table;
+use crate::input::INPUT_BYTES;
 use crate::input::LINE_BYTES;
 use crate::input::read_line;
 use board::Board;
@@ -9,6 +10,9 @@ use commands::perform::perform;
 use files::Loaded;
 use files::load::load;
 use files::load::open_bytes;
+use journal::CHECK_MEMORY;
+use journal::JOURNAL_BYTES;
+use libc::PATH_MAX;
 use libc::STDIN_FILENO;
 use libc::STDOUT_FILENO;
 use print::drawing::whole;
@@ -16,9 +20,9 @@ use print::say;
 use print::shown;
 use puzzle::byte_at;
 use texts::Command;
-use texts::grids::cells;
 use texts::commands::same;
 use texts::commands::taken_apart;
+use texts::grids::cells;
 use texts::part;
 
 // The solution of the puzzle that is built in.
@@ -30,7 +34,7 @@ fn built_in_solution() -> [u8; 81] {
 }
 
 // The puzzle that is built in: thirty givens.
-fn built_in(journal: &mut [u8; 8192], checks: &mut [u8; 1536]) -> Board {
+fn built_in(journal: &mut [u8; JOURNAL_BYTES], checks: &mut [u8; CHECK_MEMORY]) -> Board {
     let right = built_in_solution();
     let answer = open_bytes(
         b"53..7....6..195....98....6.8...6...34..8.3..17...2...6.6....28....419..5....8..79",
@@ -64,10 +68,10 @@ fn kind_of(word: &[u8]) -> u8 {
 // The name of a file taken in, the first or the second.
 fn with_name(
     so_far: Args,
-    name: [u8; 4096],
+    name: [u8; PATH_MAX],
     length: usize,
-    first: &mut [u8; 4096],
-    second: &mut [u8; 4096],
+    first: &mut [u8; PATH_MAX],
+    second: &mut [u8; PATH_MAX],
 ) -> Args {
     let mut next = so_far;
     if so_far.first == 0 {
@@ -85,7 +89,12 @@ fn with_name(
 }
 
 // Word i of the command line taken in.
-fn with_word(so_far: Args, i: usize, first: &mut [u8; 4096], second: &mut [u8; 4096]) -> Args {
+fn with_word(
+    so_far: Args,
+    i: usize,
+    first: &mut [u8; PATH_MAX],
+    second: &mut [u8; PATH_MAX],
+) -> Args {
     let mut word = io::buffer();
     let length = os::arg(i, &mut word);
     let kind = kind_of(&word[..length]);
@@ -104,7 +113,7 @@ fn with_word(so_far: Args, i: usize, first: &mut [u8; 4096], second: &mut [u8; 4
 }
 
 // The whole command line.
-fn arguments(first: &mut [u8; 4096], second: &mut [u8; 4096]) -> Args {
+fn arguments(first: &mut [u8; PATH_MAX], second: &mut [u8; PATH_MAX]) -> Args {
     let mut so_far = Args {
         first: 0,
         second: 0,
@@ -137,7 +146,12 @@ fn is_quit(command: Command) -> bool {
 }
 
 // A line that was read, taken apart and performed.
-fn obey(table: Table, text: &[u8], journal: &mut [u8; 8192], checks: &mut [u8; 1536]) -> Table {
+fn obey(
+    table: Table,
+    text: &[u8],
+    journal: &mut [u8; JOURNAL_BYTES],
+    checks: &mut [u8; CHECK_MEMORY],
+) -> Table {
     let mut next = table;
     if table.echo {
         shown(text);
@@ -159,8 +173,8 @@ fn answer(
     table: Table,
     got: Line,
     line: &[u8; LINE_BYTES],
-    journal: &mut [u8; 8192],
-    checks: &mut [u8; 1536],
+    journal: &mut [u8; JOURNAL_BYTES],
+    checks: &mut [u8; CHECK_MEMORY],
 ) -> Table {
     let mut next = table;
     next.at = got.at;
@@ -180,9 +194,9 @@ fn answer(
 // One line: read and answered.
 fn turn(
     table: Table,
-    journal: &mut [u8; 8192],
-    checks: &mut [u8; 1536],
-    buffer: &mut [u8; 4096],
+    journal: &mut [u8; JOURNAL_BYTES],
+    checks: &mut [u8; CHECK_MEMORY],
+    buffer: &mut [u8; INPUT_BYTES],
 ) -> Table {
     say(b"> ");
     let mut line = [0u8; LINE_BYTES];
@@ -190,8 +204,13 @@ fn turn(
     answer(table, got, &line, journal, checks)
 }
 
-// Line after line, until the game is left or the input ends. The turns are counted down from a number that no game uses up.
-fn session(board: Board, journal: &mut [u8; 8192], checks: &mut [u8; 1536], coloured: bool) {
+// Line after line, until the game is left or the input ends. The turns count down from a number that no game uses up.
+fn session(
+    board: Board,
+    journal: &mut [u8; JOURNAL_BYTES],
+    checks: &mut [u8; CHECK_MEMORY],
+    coloured: bool,
+) {
     let mut buffer = io::buffer();
     let mut table = Table {
         board: board,
@@ -215,10 +234,10 @@ fn session(board: Board, journal: &mut [u8; 8192], checks: &mut [u8; 1536], colo
 // The board to start with: the one that the command line names, or the one that is built in.
 fn first_board(
     args: Args,
-    first: &[u8; 4096],
-    second: &[u8; 4096],
-    journal: &mut [u8; 8192],
-    checks: &mut [u8; 1536],
+    first: &[u8; PATH_MAX],
+    second: &[u8; PATH_MAX],
+    journal: &mut [u8; JOURNAL_BYTES],
+    checks: &mut [u8; CHECK_MEMORY],
 ) -> Loaded {
     if args.first == 0 {
         return Loaded {
@@ -233,9 +252,9 @@ fn first_board(
 }
 
 // The game, where the board to start with opens.
-fn begin(args: Args, first: &[u8; 4096], second: &[u8; 4096]) {
-    let mut journal = [0u8; 8192];
-    let mut checks = [0u8; 1536];
+fn begin(args: Args, first: &[u8; PATH_MAX], second: &[u8; PATH_MAX]) {
+    let mut journal = [0u8; JOURNAL_BYTES];
+    let mut checks = [0u8; CHECK_MEMORY];
     let loaded = first_board(args, first, second, &mut journal, &mut checks);
     if !loaded.good {
         return;

@@ -5,7 +5,7 @@ use mathlib.Core.Bool.{Bool, true, false, not}
 use mathlib.Core.List.{List, [], _∷_}
 use lib.Dec.{ltb, leb, eqb}
 use lib.ListN.{length, getD}
-use Rattle.sudoku.specs.Tests.{pick, both, either, bit, every, run, Test, _⇒_, first}
+use Rattle.sudoku.specs.Tests.{pick, both, either, bit, every, run, _⇒_, first}
 use Rattle.texts.specs.Parts.{partOf}
 use Rattle.texts.specs.declared.Word.{Word}
 use Rattle.texts.specs.declared.Command.{Command}
@@ -57,7 +57,8 @@ numberOf text = pick (eqb (length text) 0) noNumber (run (λ n i. withFigure n (
 unfoldable pub valueOf : List ℕ → Word → ℕ
 valueOf line w = numberOf (partOf line (w .start) (w .end))
 
--- the letters of the commands by their names; 0 for another name. Of play: place p, erase e, mark m, strike s, undo u, redo r, check c
+-- the letters of the commands by their names; 0 for another name. Of play: place p, erase e, mark m, strike s, undo u,
+-- redo r, check c
 unfoldable pub verbOfPlay : List ℕ → ℕ
 verbOfPlay name =
     first

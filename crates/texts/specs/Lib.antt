@@ -1,3 +1,3 @@
-pub mod Parts
-pub mod Grids
 pub mod Commands
+pub mod Grids
+pub mod Parts

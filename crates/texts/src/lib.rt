@@ -1,11 +1,13 @@
-// Texts that the console and the referee read: the cells of a puzzle or a solution, and the commands of a player. All of it is functions of bytes, with their contracts.
+// Texts that the console and the referee read: the cells of a puzzle or a solution, and the commands of a player. All
+// of it is functions of bytes, with their contracts.
 ghost use mathlib.Core.Path.{_≡_};
 ghost use Rattle.texts.specs.Parts.{partOf};
 
-pub mod grids;
 pub mod commands;
+pub mod grids;
 
-// The cells of a text: how many there are (82 where there are more than 81), the first 81 of them, and the first character that is neither a cell nor white space, counted from 1; 0 where there is none.
+// The cells of a text: how many there are (82 where there are more than 81), the first 81 of them, and the first
+// character that is neither a cell nor white space, counted from 1; 0 where there is none.
 pub struct Cells {
     pub cells: [u8; 81],
     pub count: usize,
@@ -24,7 +26,8 @@ pub struct Word {
     pub end: usize,
 }
 
-// A line taken apart: the letter of its command, how many words follow (four stand for more), and the first three of them.
+// A line taken apart: the letter of its command, how many words follow (four stand for more), and the first three of
+// them.
 pub struct Command {
     pub verb: u8,
     pub words: usize,

@@ -8,10 +8,10 @@ use Rattle.files.proofs.disk.new_name.Statement.{statement}
 use Rattle.files.proofs.disk.new_name.Tie as tie
 
 abbrev Inv-loop : tie.InvT-loop
-Inv-loop path length name₀ i₀ name i = (i ≤ length) × (lib.ListN.length name ≡ 4096)
+Inv-loop path end name₀ i₀ name i = (i ≤ end) × (length name ≡ 4096)
 
 abbrev μ-loop : tie.MeasureT-loop
-μ-loop path length name₀ i₀ name i = length - i
+μ-loop path end name₀ i₀ name i = end - i
 
 loop-holds : tie.Need-loop-holds Inv-loop μ-loop
 loop-holds c = search needs

@@ -1,15 +1,16 @@
 -- `print::drawing::paint` is safe and ends.
 -- Assumes nothing.
 use Prim.Native.Nat.{_≤_, _-_}
+use Rattle.screen.specs.Picture.{size}
 use borrow.Author.Needs.{needs}
 use Rattle.print.proofs.drawing.paint.Statement.{statement}
 use Rattle.print.proofs.drawing.paint.Tie as tie
 
 abbrev Inv-loop : tie.InvT-loop
-Inv-loop signs colours n₀ n = n ≤ 2379
+Inv-loop signs colours n₀ n = n ≤ size
 
 abbrev μ-loop : tie.MeasureT-loop
-μ-loop signs colours n₀ n = 2379 - n
+μ-loop signs colours n₀ n = size - n
 
 loop-holds : tie.Need-loop-holds Inv-loop μ-loop
 loop-holds c = search needs

@@ -1,15 +1,16 @@
 -- `print::drawing::run_end` meets its contract: the end has passed the start and not the last character.
 -- Assumes nothing.
 use Prim.Native.Nat.{_≤_, _<_, _-_}
+use Rattle.screen.specs.Picture.{size}
 use borrow.Author.Needs.{needs}
 use Rattle.print.proofs.drawing.run_end.Statement.{statement}
 use Rattle.print.proofs.drawing.run_end.Tie as tie
 
 abbrev Inv-loop : tie.InvT-loop
-Inv-loop signs colours start end₀ end = (start < end) × (end ≤ 2379)
+Inv-loop signs colours start end₀ end = (start < end) × (end ≤ size)
 
 abbrev μ-loop : tie.MeasureT-loop
-μ-loop signs colours start end₀ end = 2379 - end
+μ-loop signs colours start end₀ end = size - end
 
 add-end : tie.Need-add-end Inv-loop μ-loop
 add-end c = search needs

@@ -5,16 +5,16 @@ use mathlib.Core.Path.{refl}
 use native.Mathlib.Omega.{arith}
 use Rattle.sudoku.specs.Tests.{listed}
 use Rattle.screen.proofs.Filling.{Filling, goes-on, ends}
-use Rattle.screen.specs.Picture.{colourOf, coloursOf}
+use Rattle.screen.specs.Picture.{size, colourOf, coloursOf}
 use borrow.Author.Needs.{needs}
 use Rattle.screen.proofs.picture.colours.Statement.{statement}
 use Rattle.screen.proofs.picture.colours.Tie as tie
 
 abbrev Inv-loop : tie.InvT-loop
-Inv-loop digits given out₀ n₀ out n = Filling (colourOf digits given) 2379 out n
+Inv-loop digits given out₀ n₀ out n = Filling (colourOf digits given) size out n
 
 abbrev μ-loop : tie.MeasureT-loop
-μ-loop digits given out₀ n₀ out n = 2379 - n
+μ-loop digits given out₀ n₀ out n = size - n
 
 loop-holds : tie.Need-loop-holds Inv-loop μ-loop
 unfolding listed

@@ -1,6 +1,6 @@
 -- `texts::commands::goes_on` meets its contract.
 -- Assumes nothing.
-use Rattle.texts.specs.Commands.{isBlank, goesOn}
+use Rattle.texts.specs.Commands.{goesOn}
 use borrow.Author.Needs.{needs}
 use Rattle.texts.proofs.commands.goes_on.Statement.{statement}
 use Rattle.texts.proofs.commands.goes_on.Tie as tie

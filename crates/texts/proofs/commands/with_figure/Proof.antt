@@ -1,7 +1,6 @@
 -- `texts::commands::with_figure` meets its contract.
 -- Assumes nothing.
 use borrow.Author.Tests.{eq-eqb, ne-eqb, le-leb, lt-leb, lt-ltb, le-ltb}
-use mathlib.Core.Bool.{not}
 use Rattle.sudoku.specs.Tests.{pick, both, either}
 use Rattle.texts.specs.Commands.{withFigure}
 use borrow.Author.Needs.{needs}

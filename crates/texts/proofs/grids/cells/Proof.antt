@@ -1,7 +1,7 @@
 -- `texts::grids::cells` meets its contract: what is left of the text leads to the same cells.
 -- Assumes nothing.
 use Prim.Native.Nat.{ℕ, _≤_, _+_, _-_}
-use mathlib.Core.Path.{_≡_, refl, sym, ap, _∙_}
+use mathlib.Core.Path.{_≡_, sym, ap, _∙_}
 use mathlib.Core.List.{List}
 use native.Mathlib.Omega.{arith}
 use lib.ListN.{length, getD}

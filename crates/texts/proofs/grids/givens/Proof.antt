@@ -4,7 +4,7 @@ use Prim.Native.Nat.{ℕ, _≤_, _+_, _-_}
 use mathlib.Core.Path.{_≡_, refl, sym, ap, _∙_}
 use mathlib.Core.List.{List}
 use native.Mathlib.Omega.{arith}
-use lib.ListN.{length, getD}
+use lib.ListN.{getD}
 use Rattle.sudoku.specs.Tests.{run}
 use Rattle.sudoku.proofs.Walks.{run-more, run-all}
 use Rattle.texts.specs.declared.Givens.{Givens}

@@ -1,6 +1,6 @@
 -- `texts::grids::with_character` meets its contract.
 -- Assumes nothing.
-use mathlib.Core.Path.{sym, ap, _∙_}
+use mathlib.Core.Path.{sym, _∙_}
 use borrow.Author.Tests.{eq-eqb, ne-eqb, le-leb, lt-leb}
 use Rattle.sudoku.specs.Tests.{pick}
 use Rattle.texts.specs.Grids.{withCharacter}
