@@ -13,7 +13,7 @@ use lib.ListN.{getD}
 use lib.Seq.{ext-getD}
 use Rattle.sudoku.specs.Tests.{both, either, every, listed}
 use Rattle.sudoku.specs.Grid.{isCell, rowOf, columnOf, boxIndex, isPeerOf, arePeers, at}
-use Rattle.sudoku.proofs.Walks.{by-test, same-test, both-true, both-left, both-right, both-first, both-second, both-assoc, either-left, either-right, either-cases, not-both-ways, not-is-true, not-is-false, every-at, every-of, every-step, every-all}
+use Rattle.sudoku.proofs.Walks.{by-test, same-test, both-true, both-left, both-right, both-first, both-second, both-assoc, either-left, either-right, either-cases, not-both-ways, not-is-true, every-at, every-of, every-step, every-all}
 use Rattle.sudoku.proofs.Grid.{cell-from, cell-to, is-cell}
 use Rattle.sudoku.proofs.Listed.{length-listed, listed-at}
 use Rattle.puzzle.specs.Puzzle.{isConsistent}
