@@ -19,7 +19,7 @@ use Rattle.puzzle.specs.Puzzle.{isHeld, holdsDigit, conflicts, isFull, i
 
 -- ---- a digit held by one of a list of cells
 
-pub held-of : (digits : List ℕ) (d : ℕ) (cells : List ℕ) (i : ℕ) → i < length cells → at digits (getD cells i 0) ≡ d → isHeld digits d cells ≡ true
+held-of : (digits : List ℕ) (d : ℕ) (cells : List ℕ) (i : ℕ) → i < length cells → at digits (getD cells i 0) ≡ d → isHeld digits d cells ≡ true
 unfolding isHeld
 held-of digits d [] i h e = absurd (not-suc-le-zero h)
 held-of digits d (cell ∷ cells) zero h e = either-left (eqb (at digits cell) d) (isHeld digits d cells) (eq-eqb (at digits cell) d e)
@@ -27,12 +27,12 @@ held-of digits d (cell ∷ cells) (suc i) h e =
     either-right (eqb (at digits cell) d) (isHeld digits d cells) (held-of digits d cells i (le-of-suc-le-suc h) e)
 
 -- the place in the list of a cell that holds d
-pub record Holder (digits : List ℕ) (d : ℕ) (cells : List ℕ) : Type 0 where
-  pub place : ℕ
-  pub within : place < length cells
-  pub holds : at digits (getD cells place 0) ≡ d
+record Holder (digits : List ℕ) (d : ℕ) (cells : List ℕ) : Type 0 where
+  place : ℕ
+  within : place < length cells
+  holds : at digits (getD cells place 0) ≡ d
 
-pub held-by : (digits : List ℕ) (d : ℕ) (cells : List ℕ) → isHeld digits d cells ≡ true → Holder digits d cells
+held-by : (digits : List ℕ) (d : ℕ) (cells : List ℕ) → isHeld digits d cells ≡ true → Holder digits d cells
 unfolding isHeld
 held-by digits d [] p = absurd (not-both-ways false p refl)
 held-by digits d (cell ∷ cells) p =
@@ -43,7 +43,30 @@ held-by digits d (cell ∷ cells) p =
     later : Holder digits d cells → Holder digits d (cell ∷ cells)
     later w = record { place = suc (w .place); within = omega (arith, w .within); holds = w .holds }
 
--- ---- conflicts
+-- a peer of a cell holds d
+pub record PeerHolds (digits : List ℕ) (d cell : ℕ) : Type 0 where
+  pub peer : ℕ
+  pub is-cell : isCell peer ≡ true
+  pub are-peers : arePeers cell peer ≡ true
+  pub holds : at digits peer ≡ d
+
+pub peers-hold : (digits : List ℕ) (d cell : ℕ) → isCell cell ≡ true → (isHeld digits d (peersOf cell) ≡ true) ↔ PeerHolds digits d cell
+peers-hold digits d cell p = ((λ t. met (held-by digits d (peersOf cell) t)), (λ w. found w (peers-has cell (w .peer) p (w .is-cell) (w .are-peers))))
+  where
+    met : Holder digits d (peersOf cell) → PeerHolds digits d cell
+    met w =
+        let inside : w .place < 20 = omega (arith, w .within, peers-length cell) in
+        record {
+          peer = getD (peersOf cell) (w .place) 0;
+          is-cell = peers-cell cell p (w .place) inside;
+          are-peers = peers-peer cell p (w .place) inside;
+          holds = w .holds;
+        }
+
+    found : (w : PeerHolds digits d cell) → PeerAt cell (w .peer) → isHeld digits d (peersOf cell) ≡ true
+    found w e = held-of digits d (peersOf cell) (e .at) (omega (arith, e .within, peers-length cell)) (ap (at digits) (e .is) ∙ w .holds)
+
+-- ---- a cell holds a digit
 
 pub holds-digit : (digits : List ℕ) (cell : ℕ) → (at digits cell ≡ 0 → ⊥) → holdsDigit digits cell ≡ true
 unfolding holdsDigit
@@ -52,38 +75,6 @@ holds-digit digits cell h = ap not (ne-eqb (at digits cell) 0 h)
 pub digit-held : (digits : List ℕ) (cell : ℕ) → holdsDigit digits cell ≡ true → at digits cell ≡ 0 → ⊥
 unfolding holdsDigit
 digit-held digits cell p = eqb-false (at digits cell) 0 (not-true (eqb (at digits cell) 0) p)
-
--- a cell holds a digit, and a peer holds the same
-pub record Clash (digits : List ℕ) (cell : ℕ) : Type 0 where
-  pub held : at digits cell ≡ 0 → ⊥
-  pub peer : ℕ
-  pub is-cell : isCell peer ≡ true
-  pub are-peers : arePeers cell peer ≡ true
-  pub same : at digits peer ≡ at digits cell
-
-pub conflicts-exactly : (digits : List ℕ) (cell : ℕ) → isCell cell ≡ true → (conflicts digits cell ≡ true) ↔ Clash digits cell
-unfolding conflicts
-conflicts-exactly digits cell p = (
-  (λ t. met t (held-by digits (at digits cell) (peersOf cell) (both-right (holdsDigit digits cell) (isHeld digits (at digits cell) (peersOf cell)) t))),
-  (λ w. both-true (holdsDigit digits cell) (isHeld digits (at digits cell) (peersOf cell)) (holds-digit digits cell (w .held))
-      (found w (peers-has cell (w .peer) p (w .is-cell) (w .are-peers)))),
-)
-  where
-    met : both (holdsDigit digits cell) (isHeld digits (at digits cell) (peersOf cell)) ≡ true → Holder digits (at digits cell) (peersOf cell) → Clash digits cell
-    met t w =
-        let inside : w .place < 20 = omega (arith, w .within, peers-length cell) in
-        record {
-          held = digit-held digits cell (both-left (holdsDigit digits cell) (isHeld digits (at digits cell) (peersOf cell)) t);
-          peer = getD (peersOf cell) (w .place) 0;
-          is-cell = peers-cell cell p (w .place) inside;
-          are-peers = peers-peer cell p (w .place) inside;
-          same = w .holds;
-        }
-
-    found : (w : Clash digits cell) → PeerAt cell (w .peer) → isHeld digits (at digits cell) (peersOf cell) ≡ true
-    found w e =
-        held-of digits (at digits cell) (peersOf cell) (e .at) (omega (arith, e .within, peers-length cell))
-        (ap (at digits) (e .is) ∙ w .same)
 
 -- ---- full and consistent
 
@@ -97,12 +88,12 @@ full-exactly digits = (
 -- no two peers hold the same digit
 pub consistent-exactly : (digits : List ℕ)
     → (isConsistent digits ≡ true) ↔ ((a b : ℕ) → isCell a ≡ true → isCell b ≡ true → arePeers a b ≡ true → at digits a ≡ at digits b → at digits a ≡ 0)
-unfolding isConsistent
+unfolding isConsistent conflicts
 consistent-exactly digits = (
   (λ t a b p q w e. by-test (eqb (at digits a) 0) (λ z. eqb-true (at digits a) 0 z)
       (λ z. absurd (not-both-ways (conflicts digits a)
-      (conflicts-exactly digits a p .1
-      (record { held = eqb-false (at digits a) 0 z; peer = b; is-cell = q; are-peers = w; same = sym e }))
+      (both-true _ _ (holds-digit digits a (eqb-false (at digits a) 0 z))
+      (peers-hold digits (at digits a) a p .1 (record { peer = b; is-cell = q; are-peers = w; holds = sym e })))
       (not-true (conflicts digits a)
       (every-at (λ cell. not (conflicts digits cell)) 81 1 a t (cell-from a p) (omega (arith, cell-to a p))))))),
   (λ h. every-of (λ cell. not (conflicts digits cell)) 81 1
@@ -110,10 +101,10 @@ consistent-exactly digits = (
 )
   where
     none : ((a b : ℕ) → isCell a ≡ true → isCell b ≡ true → arePeers a b ≡ true → at digits a ≡ at digits b → at digits a ≡ 0)
-        → (cell : ℕ) → isCell cell ≡ true → conflicts digits cell ≡ true → ⊥
+        → (cell : ℕ) → isCell cell ≡ true → both (holdsDigit digits cell) (isHeld digits (at digits cell) (peersOf cell)) ≡ true → ⊥
     none h cell p t =
-        let w : Clash digits cell = conflicts-exactly digits cell p .0 t in
-        w .held (h cell (w .peer) p (w .is-cell) (w .are-peers) (sym (w .same)))
+        let w : PeerHolds digits (at digits cell) cell = peers-hold digits (at digits cell) cell p .0 (both-right (holdsDigit digits cell) _ t) in
+        digit-held digits cell (both-left _ _ t) (h cell (w .peer) p (w .is-cell) (w .are-peers) (sym (w .holds)))
 
 -- ---- the status
 
