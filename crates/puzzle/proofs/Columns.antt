@@ -14,7 +14,7 @@ use Rattle.sudoku.specs.Tests.{both, either, every}
 use Rattle.sudoku.specs.Grid.{isCell, rowOf, columnOf, boxIndex, isPeerOf, arePeers, at}
 use Rattle.sudoku.proofs.Walks.{by-test, same-test, both-true, both-left, both-right, both-first, both-second, both-assoc, either-left, either-right, either-cases, not-both-ways, not-is-true, every-at, every-of, every-step, every-all}
 use Rattle.sudoku.proofs.Grid.{cell-from, cell-to, is-cell}
-use Rattle.sudoku.proofs.Listed.{listed-from, listed-shift}
+use Rattle.sudoku.proofs.Listed.{listed-from, listed-agree}
 use Rattle.puzzle.specs.Puzzle.{isConsistent}
 use Rattle.puzzle.specs.Units.{stepClear, columnsClear, reordered, rowOrder, boxOrder}
 use Rattle.puzzle.proofs.Puzzle.{consistent-exactly}
@@ -204,6 +204,6 @@ module _ (digits : List ℕ) where
 pub reordered-same : (order other : ℕ → ℕ) (digits : List ℕ) → every (λ i. eqb (order i) (other i)) 81 0 ≡ true → reordered order digits ≡ reordered other digits
 unfolding reordered
 reordered-same order other digits t =
-    listed-shift (λ i. getD digits (order i) 0) (λ i. getD digits (other i) 0) 81 0 0
+    listed-agree (λ i. getD digits (order i) 0) (λ i. getD digits (other i) 0) 81 0 0
     (λ k u. ap (λ (j : ℕ). getD digits j 0)
     (eqb-true (order (0 + k)) (other (0 + k)) (every-at (λ j. eqb (order j) (other j)) 81 0 (0 + k) t (omega arith) (omega arith))))

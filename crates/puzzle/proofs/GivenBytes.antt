@@ -104,7 +104,7 @@ module _ (bytes : List ℕ) (start step : ℕ) where
   unfolding givensAt listed
   givens-next n =
       ap (λ (gs : List Given). givenAt bytes start step 0 ∷ gs)
-      (listed-shift (givenAt bytes start step) (givenAt (drop step bytes) start step) n 1 0 (λ k u. given-on k))
+      (listed-shift (givenAt bytes start step) (givenAt (drop step bytes) start step) n 1 0 given-on)
 
 -- one triple, one item
 pub triple-next : (row column digit : ℕ) (bytes : List ℕ) (n : ℕ)

@@ -48,10 +48,13 @@ module _ {A : Type 0} (f : ℕ → A) where
       sym (take-all i l (omega arith)) ∙ e ∙ ap (λ (k : ℕ). listed f k 0) (omega arith)
 
 -- two walks whose values agree one by one
-pub listed-shift : {A : Type 0} (f g : ℕ → A) (n i j : ℕ) → ((k : ℕ) → k < n → f (i + k) ≡ g (j + k)) → listed f n i ≡ listed g n j
+pub listed-agree : {A : Type 0} (f g : ℕ → A) (n i j : ℕ) → ((k : ℕ) → k < n → f (i + k) ≡ g (j + k)) → listed f n i ≡ listed g n j
 unfolding listed
-listed-shift f g zero i j h = refl
-listed-shift f g (suc n) i j h =
+listed-agree f g zero i j h = refl
+listed-agree f g (suc n) i j h =
     λ t. (ap f (sym (add-zero i)) ∙ h 0 (omega arith) ∙ ap g (add-zero j)) t
-    ∷ listed-shift f g n (suc i) (suc j)
+    ∷ listed-agree f g n (suc i) (suc j)
     (λ k u. ap f (suc-add i k ∙ sym (add-suc i k)) ∙ h (suc k) (omega arith) ∙ ap g (add-suc j k ∙ sym (suc-add j k))) t
+
+pub listed-shift : {A : Type 0} (f g : ℕ → A) (n i j : ℕ) → ((k : ℕ) → f (i + k) ≡ g (j + k)) → listed f n i ≡ listed g n j
+listed-shift f g n i j h = listed-agree f g n i j (λ k u. h k)
