@@ -1,12 +1,11 @@
 -- Numbers 31 to 33: reopening admits the checks of a record exactly where each is on the grid and no given's, of a digit, after a move, and not a
 -- right digit where one cell was to play.
 -- Assumes nothing.
-use Prim.Native.Nat.{ℕ, suc, _-_}
+use Prim.Native.Nat.{ℕ, suc}
 use mathlib.Core.Path.{_≡_, refl, _∙_}
-use mathlib.Core.Bool.{Bool, true, false, not}
+use mathlib.Core.Bool.{true, false, not}
 use mathlib.Core.List.{List, [], _∷_}
 use lib.Dec.{eqb}
-use lib.ListN.{getD}
 use borrow.Author.Tests.{not-false, eq-eqb, ne-eqb, eqb-true, eqb-false}
 use Rattle.puzzle.specs.Givens.{isSet}
 use Rattle.sudoku.specs.Tests.{_⇒_, first, both, count}
