@@ -9,7 +9,7 @@ use lib.Dec.{eqb}
 use borrow.Author.Tests.{not-false, eq-eqb, ne-eqb, eqb-true, eqb-false}
 use Rattle.puzzle.specs.Givens.{isSet}
 use Rattle.sudoku.specs.Tests.{_⇒_, first, both, count}
-use Rattle.sudoku.proofs.Walks.{passed, no-if, not-is-false}
+use Rattle.sudoku.proofs.Walks.{passed, no-if, first-none, not-is-false}
 use Rattle.sudoku.proofs.Each.{Each}
 use Rattle.sudoku.specs.Grid.{inRange, onGrid, cellOf}
 use Rattle.puzzle.specs.Refusals.{refusal, accepted, isAccepted}
@@ -20,7 +20,6 @@ use Rattle.board.specs.declared.Board.{Board}
 use Rattle.board.specs.Board.{stateOf}
 use Rattle.record.specs.declared.Asked.{Asked}
 use Rattle.record.specs.Reopen.{toPlay, checkRefusal, checksRefusal}
-use Rattle.demands.proofs.Refusals.{first-none}
 
 pub record Asks (given : List ℕ) (solution : List ℕ) (c : Asked) : Type 0 where
   pub grid : onGrid (c .row) (c .column) ≡ true

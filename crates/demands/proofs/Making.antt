@@ -12,7 +12,7 @@ use lib.ListN.{length, take, replicate, length-append}
 use lib.Seq.{take-length}
 use borrow.Author.Tests.{ne-eqb}
 use Rattle.puzzle.specs.Givens.{isOn}
-use Rattle.sudoku.proofs.Walks.{no-if, not-is-false}
+use Rattle.sudoku.proofs.Walks.{no-if, first-none, not-is-false}
 use Rattle.sudoku.specs.Grid.{onGrid, cellOf}
 use Rattle.puzzle.specs.declared.Given.{Given}
 use Rattle.journal.specs.declared.Move.{Move}
@@ -24,7 +24,7 @@ use Rattle.calls.specs.declared.Call.{Call}
 use Rattle.calls.specs.declared.Call.the-variants.{Make, Undo, Check}
 use Rattle.demands.specs.Book.{Book, performAll, stateIn, refusedBy, taken, withMoves, checkIn, step, keep}
 use Rattle.demands.proofs.Plays.{Passes, Plays, perform-append}
-use Rattle.demands.proofs.Refusals.{first-none, first-last, refused-make, refused-undo, refused-check, step-taken}
+use Rattle.demands.proofs.Refusals.{first-last, refused-make, refused-undo, refused-check, step-taken}
 
 -- ---- steps of any book
 

@@ -9,7 +9,7 @@ use lib.ListN.{length}
 use borrow.Author.Tests.{not-true, not-false, eqb-true, eqb-false, eq-eqb}
 use Rattle.puzzle.specs.Givens.{isOn}
 use Rattle.sudoku.specs.Tests.{Test, _⇒_, first, pick, both, either}
-use Rattle.sudoku.proofs.Walks.{by-test, passed, no-if, both-left, both-right, not-is-false, pick-true, pick-false}
+use Rattle.sudoku.proofs.Walks.{by-test, passed, no-if, first-none, both-left, both-right, not-is-false, pick-true, pick-false}
 use Rattle.sudoku.specs.Grid.{inRange, onGrid, cellOf}
 use Rattle.note.specs.Note.{contains}
 use Rattle.puzzle.specs.Puzzle.{holdsDigit}
@@ -25,11 +25,6 @@ use Rattle.demands.specs.Book.{Book, made, stateIn, refusedBy, taken, st
 use Rattle.demands.proofs.Plays.{Passes}
 
 -- ---- a move that passes
-
--- no test, no refusal
-pub first-none : first [] ≡ 0
-unfolding first
-first-none = refl
 
 -- tests, and a last one that does not hold
 pub first-last : (ts : List Test) (t : Bool) (n : ℕ) → t ≡ false → first (ts ++ ((t ⇒ n) ∷ [])) ≡ first ts

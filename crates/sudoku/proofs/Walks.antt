@@ -143,6 +143,11 @@ pub no-if : (t : Bool) (n : ℕ) (ts : List Test) → t ≡ false → first ((t 
 unfolding first pick
 no-if t n ts p = ap (λ (s : Bool). pick s n (first ts)) p
 
+-- no test, no refusal
+pub first-none : first [] ≡ 0
+unfolding first
+first-none = refl
+
 -- a call that is accepted has passed each test
 pub passed : (t : Bool) (k : ℕ) (ts : List Test) → first ((t ⇒ suc k) ∷ ts) ≡ 0 → (t ≡ false) × (first ts ≡ 0)
 unfolding first pick
