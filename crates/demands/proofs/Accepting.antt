@@ -2,11 +2,11 @@
 -- Assumes nothing.
 use Prim.Native.Nat.{ℕ}
 use mathlib.Core.Path.{_≡_, refl, sym, ap, subst, _∙_}
-use mathlib.Core.Bool.{Bool, true, false, not}
+use mathlib.Core.Bool.{true, false, not}
 use mathlib.Core.List.{List}
 use lib.Dec.{eqb}
 use lib.ListN.{length}
-use borrow.Author.Tests.{eq-eqb, eqb-true}
+use borrow.Author.Tests.{eqb-true}
 use Rattle.sudoku.specs.Tests.{pick, both}
 use Rattle.sudoku.proofs.Walks.{by-test, not-both-ways, both-true, pick-true, pick-false}
 use Rattle.sudoku.proofs.Each.{Each}
@@ -21,13 +21,12 @@ use Rattle.board.specs.declared.Board.{Board}
 use Rattle.board.specs.Board.{boardOf, fresh}
 use Rattle.board.specs.Open.{Opened, noMoves, lentLengths, turnedAway}
 use Rattle.play.specs.Play.{Played}
-use Rattle.record.specs.Items.{Parts}
 use Rattle.record.specs.Scan.{partsOfBytes}
 use Rattle.record.specs.Reopen.{unreadable, replay, toPlay, checksRefusal, settledRecord, replayed, reopenOf}
 use Rattle.record.proofs.Readable.{Readable, readable}
 use Rattle.demands.specs.Book.{performAll, slotsFrom}
 use Rattle.demands.specs.Opens.{Opens}
-use Rattle.demands.proofs.Opening.{opens-of}
+use Rattle.demands.proofs.Opening.{opens-of, lengths-right}
 use Rattle.demands.proofs.Plays.{Plays}
 use Rattle.demands.proofs.Reached.{reached-given}
 use Rattle.demands.proofs.Replay.{allStand, replay-fresh, replay-fresh-plays}
@@ -59,18 +58,9 @@ then-accepted r o h =
 
 module _ (bytes solution journal checks : List ℕ) (n : length solution ≡ 81) (j : length journal ≡ journalBytes) (c : length checks ≡ checkMemory)
     (h : reopenOf bytes solution journal checks .answer .refusal ≡ accepted) where
-  parts : Parts
-  parts = partsOfBytes bytes
-
-  lengths : lentLengths solution journal checks ≡ true
-  unfolding lentLengths
-  lengths =
-      both-true _ _ (eq-eqb (length journal) journalBytes j)
-      (both-true _ _ (eq-eqb (length checks) checkMemory c) (eq-eqb (length solution) 81 n))
-
   lent : pick (isAccepted (unreadable bytes solution)) (replayed (partsOfBytes bytes) solution) (turnedAway (unreadable bytes solution)) .answer .refusal ≡ accepted
   unfolding reopenOf
-  lent = sym (ap (λ (x : Opened). x .answer .refusal) (pick-true (lentLengths solution journal checks) _ _ lengths)) ∙ h
+  lent = sym (ap (λ (x : Opened). x .answer .refusal) (pick-true (lentLengths solution journal checks) _ _ (lengths-right solution journal checks n j c))) ∙ h
 
   is-readable : Readable bytes solution
   is-readable = readable bytes solution (clean-unreadable bytes solution (went-on (unreadable bytes solution) (replayed (partsOfBytes bytes) solution) lent))

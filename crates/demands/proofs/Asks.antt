@@ -1,16 +1,15 @@
 -- Numbers 31 to 33: reopening admits the checks of a record exactly where each is on the grid and no given's, of a digit, after a move, and not a
 -- right digit where one cell was to play.
 -- Assumes nothing.
-use Prim.Native.Nat.{ℕ, suc, _-_}
+use Prim.Native.Nat.{ℕ, suc}
 use mathlib.Core.Path.{_≡_, refl, _∙_}
-use mathlib.Core.Bool.{Bool, true, false, not}
+use mathlib.Core.Bool.{true, false, not}
 use mathlib.Core.List.{List, [], _∷_}
 use lib.Dec.{eqb}
-use lib.ListN.{getD}
 use borrow.Author.Tests.{not-false, eq-eqb, ne-eqb, eqb-true, eqb-false}
 use Rattle.puzzle.specs.Givens.{isSet}
 use Rattle.sudoku.specs.Tests.{_⇒_, first, both, count}
-use Rattle.sudoku.proofs.Walks.{passed, no-if, not-is-false}
+use Rattle.sudoku.proofs.Walks.{passed, no-if, first-none, not-is-false}
 use Rattle.sudoku.proofs.Each.{Each}
 use Rattle.sudoku.specs.Grid.{inRange, onGrid, cellOf}
 use Rattle.puzzle.specs.Refusals.{refusal, accepted, isAccepted}
@@ -21,7 +20,6 @@ use Rattle.board.specs.declared.Board.{Board}
 use Rattle.board.specs.Board.{stateOf}
 use Rattle.record.specs.declared.Asked.{Asked}
 use Rattle.record.specs.Reopen.{toPlay, checkRefusal, checksRefusal}
-use Rattle.demands.proofs.Refusals.{first-none}
 
 pub record Asks (given : List ℕ) (solution : List ℕ) (c : Asked) : Type 0 where
   pub grid : onGrid (c .row) (c .column) ≡ true

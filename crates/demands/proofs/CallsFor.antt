@@ -6,10 +6,10 @@ use mathlib.Core.Path.{_≡_, refl, sym, ap, _∙_}
 use mathlib.Core.Bool.{true, false, not}
 use mathlib.Core.List.{List, [], _∷_, _++_, append-assoc, append-nil, map}
 use native.Mathlib.Omega.{arith}
-use lib.Dec.{eqb, ltb}
+use lib.Dec.{eqb}
 use lib.ListN.{length, take, replicate, length-append}
 use lib.Seq.{take-all}
-use borrow.Author.Tests.{eq-eqb, eqb-true, eqb-false, ltb-true, ltb-false}
+use borrow.Author.Tests.{eq-eqb, eqb-true, eqb-false}
 use Rattle.sudoku.specs.Tests.{both, count, bit}
 use Rattle.sudoku.proofs.Walks.{by-test, not-both-ways, both-true}
 use Rattle.sudoku.proofs.Each.{Each}
@@ -33,10 +33,10 @@ use Rattle.calls.specs.declared.Call.the-variants.{Make, Undo, Check}
 use Rattle.demands.specs.Book.{Book, newBook, performAll, step, keep}
 use Rattle.demands.specs.Opens.{Opens}
 use Rattle.demands.proofs.Opening.{opening-fit, opening-free, opening-note}
-use Rattle.demands.proofs.Plays.{Plays, plays-next}
-use Rattle.demands.proofs.Refusals.{passes-unsolved}
+use Rattle.demands.proofs.Plays.{Plays}
+use Rattle.demands.proofs.Reached.{on-the-way}
 use Rattle.demands.proofs.Making.{bookOf, keep-append, makes-some, undos, asks}
-use Rattle.demands.proofs.Lines.{line, line-length, Clear, line-plays, line-digit, line-free, line-solved, line-unsolved}
+use Rattle.demands.proofs.Lines.{line, line-length, Clear, line-plays, line-digit, line-free, line-solved}
 use Rattle.demands.proofs.OneLeft.{solves-one, solves-right}
 use Rattle.demands.proofs.Asks.{Asks}
 
@@ -131,7 +131,7 @@ module _ (gs : List Given) (solution : List ℕ) (o : Opens gs solution) where
         ∙ ap (λ (i : ℕ). keep (bookOf gs solution (line row column digit n) i (cs ++ (judge solution (suc n) row column digit ∷ []))) (replicate (suc n) Undo))
         {x = suc n} {y = suc n + 0} (omega arith)
         ∙ undos gs solution (suc n) 0 (line row column digit n) (cs ++ (judge solution (suc n) row column digit ∷ []))
-        (λ v i w. line-unsolved (opening gs) row column digit n on range clear not-solved i)
+        (λ v i w. on-the-way (opening gs) (line row column digit n) (line-plays (opening gs) row column digit n on range clear) not-solved i)
 
   -- ---- all checks
 
@@ -176,11 +176,9 @@ module _ (gs : List Given) (solution : List ℕ) (o : Opens gs solution) where
       (final : isOn (performAll (opening gs) ms .solved) ≡ true → undone ≡ 0) where
     -- where a move is undone, no position is solved
     all-unsolved : 1 ≤ undone → (i : ℕ) → isOn (performAll (opening gs) (take i ms) .solved) ≡ false
-    all-unsolved u i =
-        by-test (ltb i (length ms)) (λ t. passes-unsolved _ _ (plays-next (opening gs) ms i (ltb-true i (length ms) t) plays))
-        (λ t. by-test (isOn (performAll (opening gs) (take i ms) .solved))
-        (λ s. absurd (omega (arith, final (ap (λ (l : List Move). isOn (performAll (opening gs) l .solved)) (sym (take-all i ms (ltb-false i (length ms) t))) ∙ s))))
-        (λ s. s))
+    all-unsolved u =
+        on-the-way (opening gs) ms plays
+        (by-test (isOn (performAll (opening gs) ms .solved)) (λ t. absurd (omega (arith, final t))) (λ t. t))
 
     moves-undone : (old : List Move) (stored : List Stored) → 1 ≤ length ms
         → keep (bookOf gs solution old 0 stored) (map Make ms ++ replicate undone Undo) ≡ bookOf gs solution ms (length ms - undone) stored

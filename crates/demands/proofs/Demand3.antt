@@ -5,9 +5,7 @@ use Prim.Native.Nat.{ℕ, _+_, _-_, _≤_}
 use mathlib.Core.Path.{_≡_, refl, sym, ap, subst, _∙_}
 use mathlib.Core.List.{List, [], _∷_, map}
 use native.Mathlib.Omega.{arith}
-use lib.Dec.{eqb}
 use lib.ListN.{length, take, replicate, length-replicate}
-use Rattle.sudoku.proofs.Walks.{by-test, pick-true, pick-false}
 use Rattle.puzzle.specs.declared.Given.{Given}
 use Rattle.puzzle.specs.Refusals.{accepted}
 use Rattle.journal.specs.Limits.{journalBytes, checkMemory, recordBytes}
@@ -24,10 +22,11 @@ use Rattle.record.proofs.WriteBack.{bytes-record, are-bytes}
 use Rattle.calls.specs.declared.Call.{Call}
 use Rattle.calls.specs.declared.Call.the-variants.{Make, Undo, Redo, Check}
 use Rattle.calls.specs.Session.{Session, after, started}
-use Rattle.demands.specs.Book.{Book, newBook, made, refusedBy, taken, withMoves, step, keep, asked, partsOfBook, recordIn}
+use Rattle.demands.specs.Book.{Book, newBook, made, taken, withMoves, step, keep, asked, partsOfBook, recordIn}
 use Rattle.demands.specs.Opens.{Opens}
 use Rattle.demands.specs.Demand3.{reopenedBook, Kept, AreBytes, Writable, Demand3}
 use Rattle.demands.proofs.Opening.{opened}
+use Rattle.demands.proofs.Refusals.{after-step}
 use Rattle.demands.proofs.Making.{bookOf}
 use Rattle.demands.proofs.Good.{Good, good-new, good-keep}
 use Rattle.demands.proofs.Held.{Held}
@@ -121,11 +120,7 @@ taken-solution k Redo = refl
 taken-solution k (Check row column) = refl
 
 step-solution : (k : Book) (c : Call) → step k c .solution ≡ k .solution
-unfolding step
-step-solution k c =
-    by-test (eqb (refusedBy k c) 0)
-    (λ t. ap (λ (b : Book). b .solution) (pick-true (eqb (refusedBy k c) 0) (taken k c) k t) ∙ taken-solution k c)
-    (λ t. ap (λ (b : Book). b .solution) (pick-false (eqb (refusedBy k c) 0) (taken k c) k t))
+step-solution k c = after-step k c (λ (b : Book). b .solution ≡ k .solution) refl (λ p. taken-solution k c)
 
 keep-solution : (k : Book) (cs : List Call) → keep k cs .solution ≡ k .solution
 unfolding keep

@@ -1,12 +1,12 @@
 -- Position k: mark 1 at (1,1) is written and struck in turn until the journal's 1,024 slots are full, by induction over the turns.
 -- After each turn the board is the opened one again but for its counts, and the latest slot is the strike's; so the next turn goes like the first.
 -- Assumes nothing.
-use Prim.Native.Nat.{ℕ, zero, suc, _+_, _-_, _*_, _≤_, _<_, min}
+use Prim.Native.Nat.{ℕ, zero, suc, _+_, _-_, _*_, _≤_, _<_}
 use mathlib.Core.Path.{_≡_, refl, sym, ap, _∙_}
-use mathlib.Core.Bool.{Bool, true, false, not}
+use mathlib.Core.Bool.{true, false, not}
 use mathlib.Core.List.{List, [], _∷_, _++_}
 use native.Mathlib.Omega.{arith}
-use borrow.Author.Tests.{le-leb, lt-leb, ne-eqb}
+use borrow.Author.Tests.{le-leb, ne-eqb}
 use lib.Dec.{eqb}
 use lib.ListN.{length, replicate, length-replicate}
 use Rattle.sudoku.specs.Tests.{pick, both, first, _⇒_}
@@ -18,7 +18,7 @@ use Rattle.journal.specs.declared.Slot.{Slot}
 use Rattle.journal.specs.Limits.{maxMoves, slotBytes, journalBytes}
 use Rattle.journal.specs.Bytes.{over}
 use Rattle.journal.specs.Slots.{slotAt, bytesOf}
-use Rattle.journal.specs.Counts.{counts, recorded}
+use Rattle.journal.specs.Counts.{counts}
 use Rattle.journal.specs.State.{opening, withNotes}
 use Rattle.board.specs.declared.Board.{Board}
 use Rattle.board.specs.Board.{stateOf, boardOf, isBoard, moved}
@@ -30,6 +30,7 @@ use Rattle.calls.specs.declared.Call.the-variants.{Undo}
 use Rattle.calls.specs.Session.{Session, called, callOf, answers, started}
 use Rattle.demands.specs.Positions.{solutionG, givensE, numbers, writeMark, strikeMark, inTurn, RowK}
 use Rattle.journal.proofs.Memory.{length-over, bytes-length, slot-written}
+use Rattle.demands.proofs.Plays.{recorded-one}
 use Rattle.demands.proofs.Computing.{computing}
 
 -- ---- a board with mark 1 written at (1,1) or not, and as many moves made as stand
@@ -59,13 +60,6 @@ play-by b journal m n l ok e =
     ((not (eqb (l i) journalBytes) ⇒ 1) ∷ (not (ok i) ⇒ 2) ∷ (moveTests (stateOf b) m ++ ((eqb (b .standing) maxMoves ⇒ 15) ∷ []))))
     ∙ e)
 
--- one move more, below the limit
-recorded-next : (n : ℕ) → n < maxMoves → recorded (counts n n) ≡ counts (n + 1) (n + 1)
-unfolding recorded pick
-recorded-next n h =
-    (λ i. pick (lt-leb maxMoves n h i) (counts n n) (counts (min n n + 1) (min n n + 1)))
-    ∙ ap (λ (k : ℕ). counts k k) (omega arith)
-
 not-full : (n : ℕ) → n < maxMoves → eqb n maxMoves ≡ false
 not-full n h = ne-eqb n maxMoves (λ e. absurd (omega (arith, e)))
 
@@ -80,14 +74,14 @@ written : (n : ℕ) (journal : List ℕ) → n < maxMoves → length journal ≡
 unfolding computing withNote
 written n journal h l =
     play-by (withNote 0 n) journal (WriteMark 1 1 1) 0 l (empty-is-board n (omega arith)) (λ i. pick (not-full n h i) 15 0)
-    ∙ (λ i. played accepted (moved (withNote 2 n) (stateOf (withNote 2 n)) (recorded-next n h i)) (over journal (slotBytes * n) (bytesOf (slot 4))))
+    ∙ (λ i. played accepted (moved (withNote 2 n) (stateOf (withNote 2 n)) (recorded-one n n (omega arith) h i)) (over journal (slotBytes * n) (bytesOf (slot 4))))
 
 struck : (n : ℕ) (journal : List ℕ) → n < maxMoves → length journal ≡ journalBytes
     → playOf (withNote 2 n) journal (StrikeMark 1 1 1) ≡ played accepted (withNote 0 (n + 1)) (over journal (slotBytes * n) (bytesOf (slot 5)))
 unfolding computing withNote
 struck n journal h l =
     play-by (withNote 2 n) journal (StrikeMark 1 1 1) 0 l (marked-is-board n (omega arith)) (λ i. pick (not-full n h i) 15 0)
-    ∙ (λ i. played accepted (moved (withNote 0 n) (stateOf (withNote 0 n)) (recorded-next n h i)) (over journal (slotBytes * n) (bytesOf (slot 5))))
+    ∙ (λ i. played accepted (moved (withNote 0 n) (stateOf (withNote 0 n)) (recorded-one n n (omega arith) h i)) (over journal (slotBytes * n) (bytesOf (slot 5))))
 
 -- a session with this board and journal and no check stored, and the numbers that a call's answer and the calls after it give
 unfoldable with : Board → List ℕ → Session

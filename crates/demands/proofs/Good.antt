@@ -1,7 +1,7 @@
 -- What holds of every book: its givens open, its moves play, its counts are within the limits, a solved position is the last, and its checks are
 -- those that reopening admits. A new book has it, and every call keeps it.
 -- Assumes nothing.
-use Prim.Native.Nat.{ℕ, _+_, _≤_}
+use Prim.Native.Nat.{ℕ, _+_, _-_, _≤_}
 use mathlib.Core.Path.{_≡_, refl, sym, ap, subst, _∙_}
 use mathlib.Core.Bool.{Bool, true, false, not}
 use mathlib.Core.List.{List, [], _∷_, _++_}
@@ -10,9 +10,9 @@ use lib.Dec.{eqb}
 use lib.ListN.{length, take, length-append}
 use lib.Seq.{take-all, length-take-le}
 use borrow.Author.Tests.{not-true, not-false, eqb-true, eqb-false}
-use Rattle.puzzle.specs.Givens.{isOn}
+use Rattle.puzzle.specs.Givens.{isOn, givenCells}
 use Rattle.sudoku.specs.Tests.{_⇒_, first, both, count}
-use Rattle.sudoku.proofs.Walks.{by-test, not-both-ways, passed, both-left, both-right, pick-true, pick-false}
+use Rattle.sudoku.proofs.Walks.{by-test, not-both-ways, passed, both-left, both-right}
 use Rattle.sudoku.proofs.Each.{Each, each-append}
 use Rattle.sudoku.specs.Grid.{inRange, onGrid, cellOf}
 use Rattle.sudoku.proofs.Grid.{in-range, cell-of-is-cell}
@@ -23,6 +23,7 @@ use Rattle.journal.specs.declared.Move.the-variants.{Place, Erase, WriteMark, S
 use Rattle.journal.specs.Limits.{maxMoves, maxChecks}
 use Rattle.journal.specs.State.{State, opening, isGiven, digitAt, holdsPlayersDigit}
 use Rattle.journal.specs.StoredChecks.{Stored, isRight, judge}
+use Rattle.journal.proofs.Moves.{Fit}
 use Rattle.play.specs.Play.{moveTests}
 use Rattle.calls.specs.declared.Call.{Call}
 use Rattle.calls.specs.declared.Call.the-variants.{Make, Undo, Redo, Check}
@@ -30,8 +31,8 @@ use Rattle.demands.specs.Book.{Book, newBook, made, performAll, stateIn,
 use Rattle.demands.specs.Opens.{Opens}
 use Rattle.demands.proofs.Opening.{opening-free}
 use Rattle.demands.proofs.Plays.{Passes, Plays, plays-append, plays-take}
-use Rattle.demands.proofs.Refusals.{first-last, refused-make, refused-undo, refused-redo, refused-check}
-use Rattle.demands.proofs.Reached.{reached-fit, reached-is-given}
+use Rattle.demands.proofs.Refusals.{first-last, after-step, refused-make, refused-undo, refused-redo, refused-check}
+use Rattle.demands.proofs.Reached.{reached-fit, reached-given, reached-is-given}
 use Rattle.demands.proofs.OneLeft.{right-solves}
 
 -- a check that reopening admits: on the grid and no given's, a digit, after 1 to 1,024 moves, the verdict the solution's, and not a right digit where
@@ -85,9 +86,6 @@ module _ (k : Book) where
   pub undo-some : refusedBy k Undo ≡ 0 → k .standing ≡ 0 → ⊥
   undo-some p = eqb-false (k .standing) 0 (passed _ 11 _ (passed _ 3 _ (sym (refused-undo k) ∙ p) .1) .0)
 
-  pub redo-unsolved : refusedBy k Redo ≡ 0 → isOn (stateIn k .solved) ≡ false
-  redo-unsolved p = passed _ 3 _ (sym (refused-redo k) ∙ p) .0
-
   pub redo-some : refusedBy k Redo ≡ 0 → k .standing ≡ made k → ⊥
   redo-some p = eqb-false (k .standing) (made k) (passed _ 12 _ (passed _ 3 _ (sym (refused-redo k) ∙ p) .1) .0)
 
@@ -120,6 +118,19 @@ module _ (k : Book) (g : Good k) where
   pub standing-plays : Plays (opening (k .givens)) (take (k .standing) (k .moves))
   standing-plays = plays-take (opening (k .givens)) (k .moves) (k .standing) (g .plays)
 
+  -- the position is one that moves reach from the opening
+  pub good-fit : Fit (stateIn k)
+  unfolding stateIn
+  good-fit = reached-fit (k .givens) (k .solution) (g .opens) (take (k .standing) (k .moves)) standing-plays
+
+  pub good-given : stateIn k .given ≡ givenCells (k .givens)
+  unfolding stateIn
+  good-given = reached-given (k .givens) (k .solution) (g .opens) (take (k .standing) (k .moves)) standing-plays
+
+  pub good-is-given : (cell : ℕ) → isGiven (stateIn k) cell ≡ isGiven (opening (k .givens)) cell
+  unfolding stateIn
+  good-is-given cell = reached-is-given (k .givens) (k .solution) (g .opens) (take (k .standing) (k .moves)) standing-plays cell
+
   standing-length : length (take (k .standing) (k .moves)) ≡ k .standing
   unfolding made
   standing-length = length-take-le (k .standing) (k .moves) (g .within)
@@ -141,40 +152,33 @@ module _ (k : Book) (g : Good k) where
       counted : length (take (k .standing) (k .moves) ++ (m ∷ [])) ≡ k .standing + 1
       counted = length-append (take (k .standing) (k .moves)) (m ∷ []) ∙ ap (λ (n : ℕ). n + 1) standing-length
 
-  good-undo : refusedBy k Undo ≡ 0 → Good (taken k Undo)
-  unfolding taken withMoves made
-  good-undo p =
+  -- the same moves with another standing count
+  good-standing : (n : ℕ) → n ≤ made k → (isOn (performAll (opening (k .givens)) (k .moves) .solved) ≡ true → ⊥) → Good (withMoves k (k .moves) n)
+  unfolding withMoves made
+  good-standing n u unsolved =
       record {
         opens = g .opens;
         plays = g .plays;
-        within = omega (arith, g .within);
+        within = u;
         few = g .few;
         fewChecks = g .fewChecks;
-        final = λ s. absurd (last-solved (undo-unsolved k p) s);
+        final = λ s. absurd (unsolved s);
         asked = g .asked;
         admitted = g .admitted;
       }
 
+  good-undo : refusedBy k Undo ≡ 0 → Good (taken k Undo)
+  unfolding taken
+  good-undo p = good-standing (k .standing - 1) (omega (arith, g .within)) (last-solved (undo-unsolved k p))
+
   good-redo : refusedBy k Redo ≡ 0 → Good (taken k Redo)
-  unfolding taken withMoves made
-  good-redo p =
-      record {
-        opens = g .opens;
-        plays = g .plays;
-        within = omega (arith, g .within, redo-some k p);
-        few = g .few;
-        fewChecks = g .fewChecks;
-        final = λ s. absurd (redo-some k p (g .final s));
-        asked = g .asked;
-        admitted = g .admitted;
-      }
+  unfolding taken
+  good-redo p = good-standing (k .standing + 1) (omega (arith, g .within, redo-some k p)) (λ s. redo-some k p (g .final s))
 
   module _ (row column : ℕ) (p : refusedBy k (Check row column) ≡ 0) where
     free-cell : isGiven (opening (k .givens)) (cellOf row column) ≡ false
-    unfolding stateIn holdsPlayersDigit
-    free-cell =
-        sym (reached-is-given (k .givens) (k .solution) (g .opens) (take (k .standing) (k .moves)) standing-plays (cellOf row column))
-        ∙ not-true _ (both-right _ _ (check-holds k row column p))
+    unfolding holdsPlayersDigit
+    free-cell = sym (good-is-given (cellOf row column)) ∙ not-true _ (both-right _ _ (check-holds k row column p))
 
     digit-some : digitAt (stateIn k) (cellOf row column) ≡ 0 → ⊥
     unfolding holdsPlayersDigit digitAt
@@ -195,7 +199,7 @@ module _ (k : Book) (g : Good k) where
         record {
           grid = check-grid k row column p;
           free = free-cell;
-          range = in-range _ (omega (arith, digit-some)) (reached-fit (k .givens) (k .solution) (g .opens) (take (k .standing) (k .moves)) standing-plays .digits (cellOf row column) (cell-of-is-cell row column (check-grid k row column p)));
+          range = in-range _ (omega (arith, digit-some)) (good-fit .digits (cellOf row column) (cell-of-is-cell row column (check-grid k row column p)));
           some = after-move;
           few = omega (arith, g .within, g .few);
           verdict = refl;
@@ -228,11 +232,7 @@ module _ (k : Book) (g : Good k) where
   good-taken (Check row column) p = good-check row column p
 
   pub good-step : (c : Call) → Good (step k c)
-  unfolding step
-  good-step c =
-      by-test (eqb (refusedBy k c) 0)
-      (λ t. subst Good (sym (pick-true (eqb (refusedBy k c) 0) (taken k c) _ t)) (good-taken c (eqb-true (refusedBy k c) 0 t)))
-      (λ t. subst Good (sym (pick-false (eqb (refusedBy k c) 0) (taken k c) k t)) g)
+  good-step c = after-step k c Good g (good-taken c)
 
 -- ---- every book
 

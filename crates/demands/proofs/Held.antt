@@ -31,8 +31,7 @@ use Rattle.calls.specs.declared.Call.the-variants.{Make, Check}
 use Rattle.demands.specs.Book.{Book, made, performAll, stateIn, slotsFrom, slotsIn, taken, withMoves, checkIn}
 use Rattle.demands.specs.Demand3.{boardIn}
 use Rattle.demands.proofs.Plays.{moveNo, slots-append, slots-length, slots-in-two}
-use Rattle.demands.proofs.Reached.{reached-fit}
-use Rattle.demands.proofs.Good.{Good, standing-plays}
+use Rattle.demands.proofs.Good.{Good, good-fit}
 use Rattle.demands.proofs.Slots.{journal-slot}
 
 -- ---- the board of a book
@@ -57,11 +56,9 @@ module _ (s : State) (solution : List ℕ) (c : Counts) (n : ℕ) (f : Fit s) (d
       (every-of (solutionValue solution) 81 1 (λ cell l u. digits cell (is-cell cell l (omega arith)))))))))
 
 pub good-board : (k : Book) → Good k → isBoard (boardIn k) ≡ true
-unfolding boardIn stateIn
+unfolding boardIn
 good-board k g =
-    fit-board (stateIn k) (k .solution) (counts (made k) (k .standing)) (length (k .checks))
-    (reached-fit (k .givens) (k .solution) (g .opens) (take (k .standing) (k .moves)) (standing-plays k g))
-    (g .opens .digits) (g .few) (g .within) (g .fewChecks)
+    fit-board (stateIn k) (k .solution) (counts (made k) (k .standing)) (length (k .checks)) (good-fit k g) (g .opens .digits) (g .few) (g .within) (g .fewChecks)
 
 -- ---- slots of moves
 
@@ -119,10 +116,10 @@ module _ (journal checks : List ℕ) (k : Book) (h : Held journal checks k) wher
         checksLength = h .checksLength;
       }
     where
-      fits : slotBytes * k .standing + 8 ≤ length journal
+      fits : slotBytes * k .standing + slotBytes ≤ length journal
       fits = omega (arith, h .journalLength)
 
-      counted : slotBytes * length (take (k .standing) (k .moves) ++ (m ∷ [])) ≡ slotBytes * k .standing + 8
+      counted : slotBytes * length (take (k .standing) (k .moves) ++ (m ∷ [])) ≡ slotBytes * k .standing + slotBytes
       counted = omega (arith, length-append (take (k .standing) (k .moves)) (m ∷ []), length-take-le (k .standing) (k .moves) u)
 
   -- one check more: its six bytes laid over the check memory behind the others
@@ -141,8 +138,8 @@ module _ (journal checks : List ℕ) (k : Book) (h : Held journal checks k) wher
         checksLength = length-over checks (checkBytes * length (k .checks)) (storedBytes (checkIn k row column)) fits ∙ h .checksLength;
       }
     where
-      fits : checkBytes * length (k .checks) + 6 ≤ length checks
+      fits : checkBytes * length (k .checks) + checkBytes ≤ length checks
       fits = omega (arith, h .checksLength)
 
-      counted : checkBytes * length (k .checks ++ (checkIn k row column ∷ [])) ≡ checkBytes * length (k .checks) + 6
+      counted : checkBytes * length (k .checks ++ (checkIn k row column ∷ [])) ≡ checkBytes * length (k .checks) + checkBytes
       counted = omega (arith, length-append (k .checks) (checkIn k row column ∷ []))

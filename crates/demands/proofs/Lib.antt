@@ -3,7 +3,6 @@ pub mod Refusals
 pub mod Making
 pub mod Lines
 pub mod Opening
-pub mod Units
 pub mod Computing
 pub mod FullJournal
 pub mod Positions

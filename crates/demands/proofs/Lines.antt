@@ -1,20 +1,19 @@
 -- A line of play up to a check: from the fresh position, mark 1 written and struck in turn at the check's cell, then the digit placed there.
 -- So a check with any standing count from 1 on can be asked, and undoing the line leaves the fresh position.
 -- Assumes nothing.
-use Prim.Native.Nat.{ℕ, zero, suc, _+_, _-_}
-use mathlib.Core.Path.{_≡_, refl, sym, ap, subst, _∙_}
+use Prim.Native.Nat.{ℕ, zero, suc}
+use mathlib.Core.Path.{_≡_, refl, ap, _∙_}
 use mathlib.Core.Bool.{Bool, true, false}
 use mathlib.Core.List.{List, [], _∷_, _++_}
 use native.Mathlib.Omega.{arith}
-use lib.Dec.{ltb, eqb}
-use lib.ListN.{length, take, getD, length-append}
-use lib.Seq.{take-all}
-use borrow.Author.Tests.{ltb-true, ltb-false, eq-eqb, ne-eqb}
+use lib.Dec.{eqb}
+use lib.ListN.{length, length-append}
+use borrow.Author.Tests.{eq-eqb, ne-eqb}
 use Rattle.journal.proofs.Moves.{flag-off}
-use Rattle.puzzle.specs.Givens.{isOn, isSet}
+use Rattle.puzzle.specs.Givens.{isOn}
 use Rattle.puzzle.proofs.Puzzle.{settled-fresh}
 use Rattle.sudoku.specs.Tests.{both, bit}
-use Rattle.sudoku.proofs.Walks.{by-test, pick-false, not-is-false}
+use Rattle.sudoku.proofs.Walks.{pick-false, not-is-false}
 use Rattle.sudoku.specs.Grid.{inRange, onGrid, cellOf, at, put}
 use Rattle.sudoku.proofs.Grid.{range-from, at-put, length-put, cell-of-is-cell}
 use Rattle.note.specs.Note.{contains, withMark, without}
@@ -24,8 +23,8 @@ use Rattle.journal.specs.declared.Move.{Move}
 use Rattle.journal.specs.declared.Move.the-variants.{Place, WriteMark, StrikeMark}
 use Rattle.journal.specs.State.{State, isGiven, digitAt, noteAt, withNotes, putDigit, writeAt, strikeAt, perform}
 use Rattle.demands.specs.Book.{performAll}
-use Rattle.demands.proofs.Plays.{Passes, Plays, perform-append, plays-append, plays-next}
-use Rattle.demands.proofs.Refusals.{place-pass, write-pass, strike-pass, passes-unsolved}
+use Rattle.demands.proofs.Plays.{Passes, Plays, perform-append, plays-append}
+use Rattle.demands.proofs.Refusals.{place-pass, write-pass, strike-pass}
 
 -- n moves that write and strike mark 1 at a position in turn; `stands` says whether the mark stands before them
 unfoldable pub turns : ℕ → ℕ → ℕ → Bool → List Move
@@ -49,23 +48,11 @@ module _ (row column : ℕ) where
   line-length digit n = omega (arith, length-append (turns row column n false) (Place row column digit ∷ []), turns-length n false)
 
   -- turns change notes alone
-  turns-given : (s : State) (n : ℕ) (stands : Bool) → performAll s (turns row column n stands) .given ≡ s .given
+  turns-keep : (s : State) (n : ℕ) (stands : Bool) → performAll s (turns row column n stands) ≡ withNotes s (performAll s (turns row column n stands) .notes)
   unfolding turns performAll perform withNotes
-  turns-given s zero stands = refl
-  turns-given s (suc n) true = turns-given (perform s (StrikeMark row column 1)) n false
-  turns-given s (suc n) false = turns-given (perform s (WriteMark row column 1)) n true
-
-  turns-digits : (s : State) (n : ℕ) (stands : Bool) → performAll s (turns row column n stands) .digits ≡ s .digits
-  unfolding turns performAll perform withNotes
-  turns-digits s zero stands = refl
-  turns-digits s (suc n) true = turns-digits (perform s (StrikeMark row column 1)) n false
-  turns-digits s (suc n) false = turns-digits (perform s (WriteMark row column 1)) n true
-
-  turns-solved : (s : State) (n : ℕ) (stands : Bool) → performAll s (turns row column n stands) .solved ≡ s .solved
-  unfolding turns performAll perform withNotes
-  turns-solved s zero stands = refl
-  turns-solved s (suc n) true = turns-solved (perform s (StrikeMark row column 1)) n false
-  turns-solved s (suc n) false = turns-solved (perform s (WriteMark row column 1)) n true
+  turns-keep s zero stands = refl
+  turns-keep s (suc n) true = turns-keep (perform s (StrikeMark row column 1)) n false
+  turns-keep s (suc n) false = turns-keep (perform s (WriteMark row column 1)) n true
 
   module _ (on : onGrid row column ≡ true) where
     turns-play : (s : State) (n : ℕ) (stands : Bool) → isOn (s .solved) ≡ false → holdsDigit (s .digits) (cellOf row column) ≡ false → length (s .notes) ≡ 81
@@ -97,43 +84,39 @@ pub record Clear (s : State) (cell : ℕ) : Type 0 where
   pub notes-81 : length (s .notes) ≡ 81
 
 module _ (s : State) (row column digit n : ℕ) (on : onGrid row column ≡ true) (range : inRange digit ≡ true) (clear : Clear s (cellOf row column)) where
-  -- before the digit
+  -- before the digit: the state with other notes
   before-digit : State
-  before-digit = performAll s (turns row column n false)
+  before-digit = withNotes s (performAll s (turns row column n false) .notes)
 
   digit-passes : Passes before-digit (Place row column digit)
-  unfolding before-digit isGiven digitAt
+  unfolding before-digit withNotes isGiven digitAt
   digit-passes =
-      place-pass before-digit row column digit on (ap (λ (x : ℕ). isOn x) (turns-solved row column s n false) ∙ clear .unsolved)
-      (ap (λ (l : List ℕ). isSet l (cellOf row column)) (turns-given row column s n false) ∙ clear .free)
-      range
-      (ne-eqb (at (before-digit .digits) (cellOf row column)) digit
-      (λ e. omega (arith, range-from digit range, clear .empty, ap (λ (l : List ℕ). at l (cellOf row column)) (turns-digits row column s n false))))
+      place-pass before-digit row column digit on (clear .unsolved) (clear .free) range
+      (ne-eqb (at (s .digits) (cellOf row column)) digit (λ e. omega (arith, range-from digit range, clear .empty)))
 
   pub line-plays : Plays s (line row column digit n)
   unfolding line Plays before-digit holdsDigit digitAt
   line-plays =
       plays-append s (turns row column n false) (Place row column digit ∷ [])
       (turns-play row column on s n false (clear .unsolved) (not-is-false _ (eq-eqb (at (s .digits) (cellOf row column)) 0 (clear .empty))) (clear .notes-81) (clear .blank))
-      (digit-passes, tt)
+      (rw (turns-keep row column s n false) digit-passes, tt)
 
   -- the state at the end of the line
   line-end : performAll s (line row column digit n) ≡ perform before-digit (Place row column digit)
   unfolding line performAll before-digit
-  line-end = perform-append s (turns row column n false) (Place row column digit ∷ [])
+  line-end =
+      perform-append s (turns row column n false) (Place row column digit ∷ [])
+      ∙ ap (λ (t : State). perform t (Place row column digit)) (turns-keep row column s n false)
 
   pub line-digit : digitAt (performAll s (line row column digit n)) (cellOf row column) ≡ digit
   unfolding digitAt perform withNotes putDigit before-digit
   line-digit =
       ap (λ (t : State). at (t .digits) (cellOf row column)) line-end
-      ∙ at-put (before-digit .digits) (cellOf row column) digit (ap (λ (l : List ℕ). length l) (turns-digits row column s n false) ∙ clear .digits-81)
-      (cell-of-is-cell row column on)
+      ∙ at-put (before-digit .digits) (cellOf row column) digit (clear .digits-81) (cell-of-is-cell row column on)
 
   pub line-free : isGiven (performAll s (line row column digit n)) (cellOf row column) ≡ false
   unfolding isGiven perform withNotes putDigit before-digit
-  line-free =
-      ap (λ (t : State). isGiven t (cellOf row column)) line-end
-      ∙ ap (λ (l : List ℕ). isSet l (cellOf row column)) (turns-given row column s n false) ∙ clear .free
+  line-free = ap (λ (t : State). isGiven t (cellOf row column)) line-end ∙ clear .free
 
   -- whether the digit solves the board: all other cells are as they were
   pub line-solved : performAll s (line row column digit n) .solved
@@ -141,16 +124,6 @@ module _ (s : State) (row column digit n : ℕ) (on : onGrid row column ≡ true
   unfolding perform withNotes putDigit before-digit
   line-solved =
       ap (λ (t : State). t .solved) line-end
-      ∙ pick-false (eqb digit 0) (before-digit .solved) (settled (put (before-digit .digits) (cellOf row column) digit) (before-digit .solved))
-      (ne-eqb digit 0 (λ e. omega (arith, range-from digit range)))
-      ∙ (λ i. settled (put (turns-digits row column s n false i) (cellOf row column) digit) ((turns-solved row column s n false ∙ flag-off _ (clear .unsolved)) i))
+      ∙ pick-false (eqb digit 0) (s .solved) (settled (put (s .digits) (cellOf row column) digit) (s .solved)) (ne-eqb digit 0 (λ e. omega (arith, range-from digit range)))
+      ∙ ap (settled (put (s .digits) (cellOf row column) digit)) (flag-off _ (clear .unsolved))
       ∙ settled-fresh _
-
-  -- each state on the way is unsolved where the end is
-  pub line-unsolved : isOn (performAll s (line row column digit n) .solved) ≡ false
-      → (i : ℕ) → isOn (performAll s (take i (line row column digit n)) .solved) ≡ false
-  line-unsolved p i =
-      by-test (ltb i (length (line row column digit n)))
-      (λ h. passes-unsolved _ _ (plays-next s (line row column digit n) i (ltb-true i (length (line row column digit n)) h) line-plays))
-      (λ h. subst (λ (l : List Move). isOn (performAll s l .solved) ≡ false)
-      (sym (take-all i (line row column digit n) (ltb-false i (length (line row column digit n)) h))) p)

@@ -10,9 +10,9 @@ use native.Mathlib.Omega.{arith}
 use lib.Dec.{eqb}
 use lib.ListN.{length, take, replicate, length-append}
 use lib.Seq.{take-length}
-use borrow.Author.Tests.{eq-eqb, ne-eqb}
+use borrow.Author.Tests.{ne-eqb}
 use Rattle.puzzle.specs.Givens.{isOn}
-use Rattle.sudoku.proofs.Walks.{no-if, not-is-false, pick-true}
+use Rattle.sudoku.proofs.Walks.{no-if, first-none, not-is-false}
 use Rattle.sudoku.specs.Grid.{onGrid, cellOf}
 use Rattle.puzzle.specs.declared.Given.{Given}
 use Rattle.journal.specs.declared.Move.{Move}
@@ -24,13 +24,9 @@ use Rattle.calls.specs.declared.Call.{Call}
 use Rattle.calls.specs.declared.Call.the-variants.{Make, Undo, Check}
 use Rattle.demands.specs.Book.{Book, performAll, stateIn, refusedBy, taken, withMoves, checkIn, step, keep}
 use Rattle.demands.proofs.Plays.{Passes, Plays, perform-append}
-use Rattle.demands.proofs.Refusals.{first-none, first-last, refused-make, refused-undo, refused-check}
+use Rattle.demands.proofs.Refusals.{first-last, refused-make, refused-undo, refused-check, step-taken}
 
 -- ---- steps of any book
-
-pub step-taken : (k : Book) (c : Call) → refusedBy k c ≡ 0 → step k c ≡ taken k c
-unfolding step
-step-taken k c p = pick-true (eqb (refusedBy k c) 0) (taken k c) _ (eq-eqb (refusedBy k c) 0 p)
 
 -- an accepted move drops those after standing
 made-drops : (k : Book) (m : Move) → refusedBy k (Make m) ≡ 0

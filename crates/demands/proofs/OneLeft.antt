@@ -7,16 +7,18 @@ use mathlib.Core.List.{List}
 use native.Mathlib.Omega.{arith}
 use lib.Dec.{eqb}
 use lib.ListN.{length}
-use borrow.Author.Tests.{eq-eqb, eqb-true, eqb-false, not-true}
+use borrow.Author.Tests.{eqb-true, eqb-false, not-true}
 use Rattle.sudoku.specs.Tests.{both, bit, count}
 use Rattle.sudoku.proofs.Walks.{by-test, not-both-ways, both-true, both-left, both-right, count-some}
 use Rattle.sudoku.proofs.Counting.{count-zero, count-apart, count-alone}
-use Rattle.sudoku.specs.Grid.{inRange, isCell, rowOf, at, put}
-use Rattle.sudoku.proofs.Grid.{cell-from, cell-to, is-cell, range-from, range-to, row-in-range, at-put, at-put-other}
+use Rattle.sudoku.specs.Grid.{inRange, isCell, at, put}
+use Rattle.sudoku.proofs.Grid.{cell-from, cell-to, is-cell, range-from, range-to, at-put, at-put-other}
 use Rattle.puzzle.specs.declared.Given.{Given}
 use Rattle.puzzle.specs.Givens.{isOn, digitsOf}
 use Rattle.puzzle.specs.Puzzle.{isFull, isConsistent}
+use Rattle.puzzle.specs.EachOnce.{Row, unitOf, inUnit, timesHeld, EachOnce}
 use Rattle.puzzle.proofs.Givens.{length-digits-of}
+use Rattle.puzzle.proofs.EachOnce.{unit-in-range, unit-peers, each-once}
 use Rattle.puzzle.proofs.Puzzle.{full-exactly, consistent-exactly}
 use Rattle.journal.specs.declared.Move.{Move}
 use Rattle.journal.specs.State.{opening, isGiven, digitAt}
@@ -25,9 +27,7 @@ use Rattle.record.specs.Reopen.{toPlay}
 use Rattle.record.proofs.Givens.{to-play}
 use Rattle.demands.specs.Book.{performAll}
 use Rattle.demands.specs.Opens.{Opens}
-use Rattle.demands.specs.Solved.{timesHeld, EachOnce}
 use Rattle.demands.proofs.Opening.{opening-digit, opening-free, opens-grid, opens-rising}
-use Rattle.demands.proofs.Units.{each-once}
 use Rattle.demands.proofs.Plays.{Plays}
 use Rattle.demands.proofs.Reached.{reached-fit, reached-digit}
 
@@ -75,14 +75,6 @@ module _ (gs : List Given) (solution : List ℕ) (o : Opens gs solution) where
 
   -- ---- a digit placed on the fresh position
 
-  -- the solution holds each digit once in each row
-  solution-once : EachOnce solution
-  solution-once =
-      each-once solution (λ c p. range-to (at solution c) (o .digits c p)) .0
-      (both-true (isFull solution) (isConsistent solution)
-      (full-exactly solution .1 (λ c p z. omega (arith, range-from (at solution c) (o .digits c p))))
-      (consistent-exactly solution .1 (λ a b pa pb t w. absurd (o .agree a b pa pb t w))))
-
   module _ (cell d : ℕ) (is : isCell cell ≡ true) (f : isGiven (opening gs) cell ≡ false) (range : inRange d ≡ true)
       (solved : both (isFull (put (digitsOf gs) cell d)) (isConsistent (put (digitsOf gs) cell d)) ≡ true) where
     here : at (put (digitsOf gs) cell d) cell ≡ d
@@ -124,41 +116,29 @@ module _ (gs : List Given) (solution : List ℕ) (o : Opens gs solution) where
         (λ t. omega (arith, range-to d range, ap (λ (x : ℕ). at (put (digitsOf gs) cell d) x) (eqb-true cell c t), here))
         (λ t. omega (arith, digit-elsewhere c pc (eqb-false cell c t), range-to (at solution c) (o .digits c pc)))
 
-    -- in the row of the cell the solution's digit of the cell stands once: not at the cell, where another digit was placed, and so nowhere
-    holds : List ℕ → ℕ → Bool
-    holds digits c = both (eqb (rowOf c) (rowOf cell)) (eqb (at digits c) (at solution cell))
-
-    nowhere-else : (c : ℕ) → isCell c ≡ true → (cell ≡ c → ⊥) → holds solution c ≡ true → ⊥
-    unfolding timesHeld holds
-    nowhere-else c pc ne t =
-        ne (count-alone (holds solution) 81 1 cell c once (cell-from cell is) (omega (arith, cell-to cell is)) (cell-from c pc) (omega (arith, cell-to c pc)) own t)
-      where
-        once : count (holds solution) 81 1 ≤ 1
-        once = omega (arith, solution-once .rows (rowOf cell) (at solution cell) (row-in-range cell is) (o .digits cell is))
-
-        own : holds solution cell ≡ true
-        own = both-true (eqb (rowOf cell) (rowOf cell)) (eqb (at solution cell) (at solution cell)) (eq-eqb (rowOf cell) (rowOf cell) refl) (eq-eqb (at solution cell) (at solution cell) refl)
-
-    missing : (at solution cell ≡ d → ⊥) → (c : ℕ) → isCell c ≡ true → holds (put (digitsOf gs) cell d) c ≡ false
-    unfolding holds
+    -- the solution's digit of the cell stands once in the cell's row: not at the cell, if another digit was placed, nor elsewhere, where it is a peer's
+    missing : (at solution cell ≡ d → ⊥) → (c : ℕ) → isCell c ≡ true
+        → both (inUnit Row (unitOf Row cell) c) (eqb (at (put (digitsOf gs) cell d) c) (at solution cell)) ≡ false
+    unfolding inUnit
     missing ne c pc =
-        by-test (holds (put (digitsOf gs) cell d) c)
+        by-test (both (inUnit Row (unitOf Row cell) c) (eqb (at (put (digitsOf gs) cell d) c) (at solution cell)))
         (λ t.
-        let e : at (put (digitsOf gs) cell d) c ≡ at solution cell = eqb-true _ _ (both-right (eqb (rowOf c) (rowOf cell)) _ t) in
-        by-test (eqb cell c)
-        (λ u. absurd (ne (sym e ∙ ap (λ (x : ℕ). at (put (digitsOf gs) cell d) x) (sym (eqb-true cell c u)) ∙ here)))
-        (λ u. absurd (nowhere-else c pc (eqb-false cell c u)
-        (both-true (eqb (rowOf c) (rowOf cell)) (eqb (at solution c) (at solution cell)) (both-left (eqb (rowOf c) (rowOf cell)) _ t)
-        (eq-eqb (at solution c) (at solution cell) (sym (digit-elsewhere c pc (eqb-false cell c u)) ∙ e))))))
+        let e : at (put (digitsOf gs) cell d) c ≡ at solution cell = eqb-true _ _ (both-right (inUnit Row (unitOf Row cell) c) _ t) in
+        absurd (by-test (eqb cell c)
+        (λ u. ne (sym e ∙ ap (λ (x : ℕ). at (put (digitsOf gs) cell d) x) (sym (eqb-true cell c u)) ∙ here))
+        (λ u.
+        let other : cell ≡ c → ⊥ = eqb-false cell c u in
+        o .agree c cell pc is (unit-peers c cell pc is Row (eqb-true _ _ (both-left _ _ t)) (λ w. other (sym w))) (sym (digit-elsewhere c pc other) ∙ e))))
         (λ t. t)
 
     pub solves-right : at solution cell ≡ d
-    unfolding timesHeld holds
+    unfolding EachOnce timesHeld
     solves-right =
         by-test (eqb (at solution cell) d) (λ t. eqb-true (at solution cell) d t)
         (λ t.
         absurd (omega (
           arith,
-          each-once (put (digitsOf gs) cell d) small .0 solved .rows (rowOf cell) (at solution cell) (row-in-range cell is) (o .digits cell is),
-          count-zero (holds (put (digitsOf gs) cell d)) 81 1 (λ c l u. missing (eqb-false (at solution cell) d t) c (is-cell c l (omega arith))),
+          each-once (put (digitsOf gs) cell d) small .0 solved Row (unitOf Row cell) (at solution cell) (unit-in-range Row cell is) (o .digits cell is),
+          count-zero (λ c. both (inUnit Row (unitOf Row cell) c) (eqb (at (put (digitsOf gs) cell d) c) (at solution cell))) 81 1
+              (λ c l u. missing (eqb-false (at solution cell) d t) c (is-cell c l (omega arith))),
         )))

@@ -1,5 +1,5 @@
--- Givens open with a solution exactly where opening's tests refuse nothing; what then holds of the givens and of the fresh state; and that opening
--- them returns the fresh board.
+-- What `Opens` says in the words of opening's tests, and so that they refuse nothing; what then holds of the givens and of the fresh state; and that
+-- opening them returns the fresh board.
 -- Assumes nothing.
 use Prim.Native.Nat.{ℕ, _%_}
 use mathlib.Core.Path.{_≡_, sym, _∙_}
@@ -12,13 +12,12 @@ use Rattle.sudoku.proofs.Walks.{both-true, pick-true}
 use Rattle.sudoku.proofs.Each.{Each, each-at, each-of}
 use Rattle.puzzle.specs.declared.Given.{Given}
 use Rattle.puzzle.specs.Refusals.{accepted}
-use Rattle.puzzle.specs.Givens.{given, triples, digitsOf, ascending}
-use Rattle.puzzle.specs.Puzzle.{isFull}
+use Rattle.puzzle.specs.Givens.{given, triples, ascending}
 use Rattle.puzzle.specs.Vouch.{wellPosed}
 use Rattle.puzzle.proofs.Accepted.{accepts}
 use Rattle.puzzle.proofs.Order.{ascends-at, ascends-of}
-use Rattle.puzzle.proofs.Givens.{OnGrid, Matches, Rising, marked, given-at, given-digit, free-digit, fresh-not-full}
-use Rattle.puzzle.proofs.Posed.{Vouched, posed-ascends, posed-vouched, posed, vouched-rising}
+use Rattle.puzzle.proofs.Givens.{OnGrid, Matches, Rising, marked, given-at, given-digit, free-digit}
+use Rattle.puzzle.proofs.Posed.{Vouched, posed, vouched-rising}
 use Rattle.journal.specs.Limits.{journalBytes, checkMemory}
 use Rattle.journal.specs.State.{opening, isGiven, digitAt, noteAt}
 use Rattle.journal.proofs.Moves.{Fit, fit-opening, empty-note}
@@ -59,9 +58,6 @@ module _ (gs : List Given) (solution : List ℕ) where
   pub opens→posed : Opens gs solution → wellPosed gs solution ≡ accepted
   opens→posed o = posed gs solution (opens-ascending o) (opens-vouched o)
 
-  pub posed→opens : length solution ≡ 81 → wellPosed gs solution ≡ accepted → Opens gs solution
-  posed→opens n h = opens-of n (posed-ascends gs solution h) (posed-vouched gs solution h)
-
 -- ---- what holds of givens that open
 
 module _ (gs : List Given) (solution : List ℕ) (o : Opens gs solution) where
@@ -93,21 +89,20 @@ module _ (gs : List Given) (solution : List ℕ) (o : Opens gs solution) where
   unfolding opening noteAt
   opening-note cell q = empty-note cell q
 
-  pub opening-not-full : isFull (digitsOf gs) ≡ false
-  opening-not-full = fresh-not-full gs opens-grid opens-rising (o .left)
-
   pub opening-fit : Fit (opening gs)
   opening-fit = fit-opening solution gs opens-grid opens-match (opens-ascending gs solution o) (o .digits) (o .left)
 
 -- ---- opening returns the fresh board
 
+pub lengths-right : (solution journal checks : List ℕ) → length solution ≡ 81 → length journal ≡ journalBytes → length checks ≡ checkMemory
+    → lentLengths solution journal checks ≡ true
+unfolding lentLengths
+lengths-right solution journal checks n j c =
+    both-true _ _ (eq-eqb (length journal) journalBytes j) (both-true _ _ (eq-eqb (length checks) checkMemory c) (eq-eqb (length solution) 81 n))
+
 pub opened : (givens solution journal checks : List ℕ) → length givens % 3 ≡ 0 → Opens (triples givens) solution
     → length journal ≡ journalBytes → length checks ≡ checkMemory → openOf givens solution journal checks ≡ openedFresh (triples givens) solution
-unfolding openOf lentLengths
+unfolding openOf
 opened givens solution journal checks n o j c =
-    pick-true _ _ _
-    (both-true _ _
-    (both-true _ _ (eq-eqb (length journal) journalBytes j)
-    (both-true _ _ (eq-eqb (length checks) checkMemory c) (eq-eqb (length solution) 81 (o .cells))))
-    (eq-eqb (length givens % 3) 0 n))
+    pick-true _ _ _ (both-true _ _ (lengths-right solution journal checks (o .cells) j c) (eq-eqb (length givens % 3) 0 n))
     ∙ pick-true _ _ _ (accepts (wellPosed (triples givens) solution) (opens→posed (triples givens) solution o))

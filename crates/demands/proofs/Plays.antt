@@ -1,16 +1,20 @@
 -- Moves that play: each passes the tests of its call in the state before it. What follows for the moves before and after a place in the list,
--- and for the slots that the moves fill.
+-- for the slots that the moves fill, and for the counts.
 -- Assumes nothing.
-use Prim.Native.Nat.{ℕ, suc, _+_, _*_, _<_}
+use Prim.Native.Nat.{ℕ, suc, _+_, _*_, _≤_, _<_, min}
 use mathlib.Core.Path.{_≡_, refl, sym, ap, subst, _∙_}
 use mathlib.Core.List.{List, [], _∷_, _++_, append-assoc}
 use native.Mathlib.Omega.{arith}
+use borrow.Author.Tests.{lt-leb}
+use lib.Dec.{leb}
 use lib.ListN.{length, take, drop, getD, take-append-drop}
 use lib.Seq.{drop-cons, take-suc}
 use Rattle.sudoku.specs.Tests.{first}
+use Rattle.sudoku.proofs.Walks.{pick-false}
 use Rattle.journal.specs.declared.Move.{Move}
 use Rattle.journal.specs.declared.Move.the-variants.{Erase}
-use Rattle.journal.specs.Limits.{slotBytes}
+use Rattle.journal.specs.Limits.{maxMoves, slotBytes}
+use Rattle.journal.specs.Counts.{counts, recorded}
 use Rattle.journal.specs.State.{State, perform}
 use Rattle.journal.specs.Slots.{slotFor, bytesOf}
 use Rattle.play.specs.Play.{moveTests}
@@ -65,10 +69,6 @@ slots-length s (m ∷ ms) = omega (arith, slots-length (perform s m) ms)
 -- ---- the first n of them
 
 module _ (s : State) (ms : List Move) (n : ℕ) where
-  -- the list in two parts
-  pub in-two : take n ms ++ drop n ms ≡ ms
-  in-two = take-append-drop n ms
-
   pub plays-take : Plays s ms → Plays s (take n ms)
   plays-take p = plays-front s (take n ms) (drop n ms) (rw take-append-drop p)
 
@@ -86,4 +86,13 @@ module _ (s : State) (ms : List Move) (n : ℕ) where
   perform-next h = ap (λ (l : List Move). performAll s l) (take-suc ms n (Erase 0 0) h) ∙ perform-append s (take n ms) (getD ms n (Erase 0 0) ∷ [])
 
   pub slots-in-two : slotsFrom s ms ≡ slotsFrom s (take n ms) ++ slotsFrom (performAll s (take n ms)) (drop n ms)
-  slots-in-two = ap (λ (l : List Move). slotsFrom s l) (sym in-two) ∙ slots-append s (take n ms) (drop n ms)
+  slots-in-two = ap (λ (l : List Move). slotsFrom s l) (sym (take-append-drop n ms)) ∙ slots-append s (take n ms) (drop n ms)
+
+-- ---- the counts
+
+-- one move recorded below the limit: those after standing are dropped, and one is added
+pub recorded-one : (made standing : ℕ) → standing ≤ made → standing < maxMoves → recorded (counts made standing) ≡ counts (standing + 1) (standing + 1)
+unfolding recorded
+recorded-one made standing u h =
+    pick-false (leb maxMoves standing) _ _ (lt-leb maxMoves standing h)
+    ∙ ap (λ (n : ℕ). counts (n + 1) (n + 1)) {x = min made standing} {y = standing} (omega arith)

@@ -1,13 +1,16 @@
--- The states that moves reach from the opening: they are fit, their givens are the puzzle's and hold the solution's digits, and where one cell is to play
--- the right digit there solves the board.
+-- The states that moves reach: from a fit state they are fit, and unsolved on the way to an unsolved one; from the opening their givens are the puzzle's
+-- and hold the solution's digits.
 -- Assumes nothing.
-use Prim.Native.Nat.{ℕ, _-_}
+use Prim.Native.Nat.{ℕ}
 use mathlib.Core.Path.{_≡_, refl, sym, ap, _∙_}
-use mathlib.Core.Bool.{Bool, true, false}
+use mathlib.Core.Bool.{true, false}
 use mathlib.Core.List.{List, [], _∷_}
-use lib.ListN.{getD}
-use Rattle.puzzle.specs.Givens.{isSet}
-use Rattle.sudoku.proofs.Walks.{not-both-ways}
+use lib.Dec.{ltb}
+use lib.ListN.{length, take}
+use lib.Seq.{take-all}
+use borrow.Author.Tests.{ltb-true, ltb-false}
+use Rattle.puzzle.specs.Givens.{isOn, isSet}
+use Rattle.sudoku.proofs.Walks.{by-test, not-both-ways}
 use Rattle.sudoku.specs.Grid.{onGrid, cellOf, isCell, at, put}
 use Rattle.sudoku.proofs.Grid.{at-put-other, cell-of-is-cell}
 use Rattle.puzzle.specs.declared.Given.{Given}
@@ -19,7 +22,7 @@ use Rattle.journal.proofs.Moves.{Fit, Allowed, fit-perform, given-kept}
 use Rattle.demands.specs.Book.{performAll}
 use Rattle.demands.specs.Opens.{Opens}
 use Rattle.demands.proofs.Opening.{opening-fit, opening-digit}
-use Rattle.demands.proofs.Plays.{Plays}
+use Rattle.demands.proofs.Plays.{Plays, plays-next}
 use Rattle.demands.proofs.Refusals.{passes-unsolved, passes-allowed}
 
 -- ---- any state
@@ -29,6 +32,12 @@ unfolding performAll Plays
 fit-all s [] f p = f
 fit-all s (m ∷ ms) f p =
     fit-all (perform s m) ms (fit-perform s m f (passes-unsolved s m (p .0)) (passes-allowed s m (p .0))) (p .1)
+
+-- where the last position is unsolved, every position on the way is
+pub on-the-way : (s : State) (ms : List Move) → Plays s ms → isOn (performAll s ms .solved) ≡ false → (i : ℕ) → isOn (performAll s (take i ms) .solved) ≡ false
+on-the-way s ms p u i =
+    by-test (ltb i (length ms)) (λ t. passes-unsolved _ _ (plays-next s ms i (ltb-true i (length ms) t) p))
+    (λ t. ap (λ (l : List Move). isOn (performAll s l .solved)) (take-all i ms (ltb-false i (length ms) t)) ∙ u)
 
 pub given-all : (s : State) (ms : List Move) → performAll s ms .given ≡ s .given
 unfolding performAll

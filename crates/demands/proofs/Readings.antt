@@ -2,7 +2,7 @@
 -- Assumes nothing.
 use Prim.Native.Nat.{ℕ, zero, suc, _+_, _-_, _≤_, _<_}
 use mathlib.Core.Path.{_≡_, sym, ap, subst, _∙_}
-use mathlib.Core.Bool.{true, false}
+use mathlib.Core.Bool.{true}
 use mathlib.Core.List.{List}
 use native.Mathlib.Numerals.{add-one}
 use native.Mathlib.Omega.{arith}
@@ -34,8 +34,8 @@ use Rattle.demands.specs.Readings.{stateAt, readSession, Reads, ReadsIts
 use Rattle.demands.proofs.Plays.{moveNo, plays-take, plays-next, perform-next}
 use Rattle.demands.proofs.Refusals.{passes-allowed}
 use Rattle.demands.proofs.Opening.{opening-digit, opening-free, opening-fit}
-use Rattle.demands.proofs.Reached.{reached-fit, reached-given, reached-is-given, reached-digit}
-use Rattle.demands.proofs.Good.{Good, good-new, good-keep, standing-plays}
+use Rattle.demands.proofs.Reached.{reached-fit, reached-digit}
+use Rattle.demands.proofs.Good.{Good, good-new, good-keep, standing-plays, good-given, good-is-given}
 use Rattle.demands.proofs.Slots.{journal-sound}
 use Rattle.demands.proofs.Held.{Held, good-board, held-slot}
 use Rattle.demands.proofs.Steps.{sessionOf}
@@ -61,16 +61,16 @@ module _ (k : Book) (g : Good k) where
   given-kept cell is =
       by-test (isGiven (opening (k .givens)) cell)
       (λ t.
-      pick-true _ _ _ (reached-is-given (k .givens) (k .solution) (g .opens) (take (k .standing) (k .moves)) (standing-plays k g) cell ∙ t)
+      pick-true _ _ _ (good-is-given k g cell ∙ t)
       ∙ reached-digit (k .givens) (k .solution) (g .opens) (take (k .standing) (k .moves)) (standing-plays k g) cell is t
       ∙ sym (opening-digit (k .givens) (k .solution) (g .opens) cell is t))
       (λ t.
-      pick-false _ _ _ (reached-is-given (k .givens) (k .solution) (g .opens) (take (k .standing) (k .moves)) (standing-plays k g) cell ∙ t)
+      pick-false _ _ _ (good-is-given k g cell ∙ t)
       ∙ sym (opening-free (k .givens) (k .solution) (g .opens) cell is t))
 
   same-given : stateIn k .given ≡ opening (k .givens) .given
-  unfolding stateIn opening
-  same-given = reached-given (k .givens) (k .solution) (g .opens) (take (k .standing) (k .moves)) (standing-plays k g)
+  unfolding opening
+  same-given = good-given k g
 
   same-opening : openingOf (boardIn k) ≡ opening (k .givens)
   unfolding openingOf boardIn boardOf stateOf opening

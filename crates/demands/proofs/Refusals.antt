@@ -1,34 +1,30 @@
--- The book's refusals: all numbers in one list, the same number that the calls' own lists give; and what an accepted call has passed.
+-- The book's refusals: all numbers in one list, the same number that the calls' own lists give; what an accepted call has passed; and a book's step.
 -- Assumes nothing.
-use Prim.Native.Nat.{ℕ, _+_}
-use mathlib.Core.Path.{_≡_, refl, ap, _∙_}
+use Prim.Native.Nat.{ℕ}
+use mathlib.Core.Path.{_≡_, refl, sym, ap, subst, _∙_}
 use mathlib.Core.Bool.{Bool, true, false, not}
 use mathlib.Core.List.{List, [], _∷_, _++_}
 use lib.Dec.{eqb}
 use lib.ListN.{length}
-use borrow.Author.Tests.{not-true, not-false, eqb-false}
+use borrow.Author.Tests.{not-true, not-false, eqb-true, eqb-false, eq-eqb}
 use Rattle.puzzle.specs.Givens.{isOn}
-use Rattle.sudoku.specs.Tests.{Test, _⇒_, first, pick}
-use Rattle.sudoku.proofs.Walks.{passed, no-if, both-left, both-right, not-is-false}
+use Rattle.sudoku.specs.Tests.{Test, _⇒_, first, pick, both, either}
+use Rattle.sudoku.proofs.Walks.{by-test, passed, no-if, first-none, both-left, both-right, not-is-false, pick-true, pick-false}
 use Rattle.sudoku.specs.Grid.{inRange, onGrid, cellOf}
 use Rattle.note.specs.Note.{contains}
 use Rattle.puzzle.specs.Puzzle.{holdsDigit}
 use Rattle.journal.specs.declared.Move.{Move}
 use Rattle.journal.specs.declared.Move.the-variants.{Place, Erase, WriteMark, StrikeMark}
 use Rattle.journal.specs.Limits.{maxMoves, maxChecks}
-use Rattle.journal.specs.State.{State, isGiven, digitAt, noteAt, holdsPlayersDigit, acceptsMarks, rowIn, columnIn}
+use Rattle.journal.specs.State.{State, isGiven, digitAt, noteAt, holdsPlayersDigit, acceptsMarks, rowIn, columnIn, digitIn, target}
 use Rattle.journal.proofs.Moves.{Allowed}
 use Rattle.play.specs.Play.{moveTests}
+use Rattle.calls.specs.declared.Call.{Call}
 use Rattle.calls.specs.declared.Call.the-variants.{Make, Undo, Redo, Check}
-use Rattle.demands.specs.Book.{Book, made, stateIn, refusedBy, noSuchCell, givenCell, noPlayersDigit, marksNotAccepted, digitOutOfRange, digitAlreadyStands, markAlreadyWritten, markNotThere, nothingToUndo, nothingToRedo, journalFull, checksFull}
+use Rattle.demands.specs.Book.{Book, made, stateIn, refusedBy, taken, step, isOf, kindIn, ordinal, cellNamed, digitNamed, noSuchCell, givenCell, noPlayersDigit, marksNotAccepted, digitOutOfRange, digitAlreadyStands, markAlreadyWritten, markNotThere, nothingToUndo, nothingToRedo, journalFull, checksFull}
 use Rattle.demands.proofs.Plays.{Passes}
 
 -- ---- a move that passes
-
--- no test, no refusal
-pub first-none : first [] ≡ 0
-unfolding first
-first-none = refl
 
 -- tests, and a last one that does not hold
 pub first-last : (ts : List Test) (t : Bool) (n : ℕ) → t ≡ false → first (ts ++ ((t ⇒ n) ∷ [])) ≡ first ts
@@ -126,22 +122,44 @@ strike-pass s row column digit on unsolved empty there =
 
 -- ---- the book's number
 
+-- the words of the book's tests, opened together
+unfoldable booked : ℕ
+unfolding refusedBy isOf kindIn ordinal cellNamed digitNamed noSuchCell givenCell noPlayersDigit marksNotAccepted digitOutOfRange digitAlreadyStands markAlreadyWritten markNotThere nothingToUndo nothingToRedo journalFull checksFull first pick both either
+booked = 0
+
 module _ (k : Book) where
   pub refused-make : (m : Move) → refusedBy k (Make m) ≡ first (moveTests (stateIn k) m ++ ((eqb (k .standing) maxMoves ⇒ 15) ∷ []))
-  unfolding refusedBy noSuchCell givenCell noPlayersDigit marksNotAccepted digitOutOfRange digitAlreadyStands markAlreadyWritten markNotThere nothingToUndo nothingToRedo journalFull checksFull first pick moveTests rowIn columnIn
+  unfolding booked moveTests target rowIn columnIn digitIn
   refused-make (Place row column digit) = refl
   refused-make (Erase row column) = refl
   refused-make (WriteMark row column digit) = refl
   refused-make (StrikeMark row column digit) = refl
 
   pub refused-undo : refusedBy k Undo ≡ first ((isOn (stateIn k .solved) ⇒ 4) ∷ (eqb (k .standing) 0 ⇒ 12) ∷ [])
-  unfolding refusedBy noSuchCell givenCell noPlayersDigit marksNotAccepted digitOutOfRange digitAlreadyStands markAlreadyWritten markNotThere nothingToUndo nothingToRedo journalFull checksFull first pick
+  unfolding booked
   refused-undo = refl
 
   pub refused-redo : refusedBy k Redo ≡ first ((isOn (stateIn k .solved) ⇒ 4) ∷ (eqb (k .standing) (made k) ⇒ 13) ∷ [])
-  unfolding refusedBy noSuchCell givenCell noPlayersDigit marksNotAccepted digitOutOfRange digitAlreadyStands markAlreadyWritten markNotThere nothingToUndo nothingToRedo journalFull checksFull first pick
+  unfolding booked
   refused-redo = refl
 
   pub refused-check : (row column : ℕ) → refusedBy k (Check row column) ≡ first ((not (onGrid row column) ⇒ 3) ∷ (isOn (stateIn k .solved) ⇒ 4) ∷ (not (holdsPlayersDigit (stateIn k) (cellOf row column)) ⇒ 6) ∷ (eqb (length (k .checks)) maxChecks ⇒ 16) ∷ [])
-  unfolding refusedBy noSuchCell givenCell noPlayersDigit marksNotAccepted digitOutOfRange digitAlreadyStands markAlreadyWritten markNotThere nothingToUndo nothingToRedo journalFull checksFull first pick
+  unfolding booked
   refused-check row column = refl
+
+  -- ---- its step
+
+  module _ (c : Call) where
+    pub step-taken : refusedBy k c ≡ 0 → step k c ≡ taken k c
+    unfolding step
+    step-taken p = pick-true (eqb (refusedBy k c) 0) (taken k c) k (eq-eqb (refusedBy k c) 0 p)
+
+    pub step-refused : eqb (refusedBy k c) 0 ≡ false → step k c ≡ k
+    unfolding step
+    step-refused p = pick-false (eqb (refusedBy k c) 0) (taken k c) k p
+
+    -- what holds of the book, and of it after an accepted call, holds after the call
+    pub after-step : (P : Book → Type 0) → P k → (refusedBy k c ≡ 0 → P (taken k c)) → P (step k c)
+    after-step P same new =
+        by-test (eqb (refusedBy k c) 0)
+        (λ t. let p = eqb-true (refusedBy k c) 0 t in subst P (sym (step-taken p)) (new p)) (λ t. subst P (sym (step-refused t)) same)

@@ -2,7 +2,7 @@
 -- Assumes nothing.
 use Prim.Native.Nat.{ℕ, _+_, _-_, _*_, _≤_, _<_}
 use mathlib.Core.Path.{_≡_, refl, sym, ap, subst, _∙_}
-use mathlib.Core.Bool.{Bool, true, false, not}
+use mathlib.Core.Bool.{true, false, not}
 use mathlib.Core.List.{List, [], _∷_, map}
 use native.Mathlib.Nat.{le-refl}
 use native.Mathlib.Omega.{arith}
@@ -11,7 +11,7 @@ use lib.ListN.{length, take, length-replicate, length-map}
 use lib.Seq.{take-length}
 use borrow.Author.Tests.{eq-eqb}
 use Rattle.sudoku.specs.Tests.{pick, both}
-use Rattle.sudoku.proofs.Walks.{by-test, both-true, both-false-left, both-false-right, not-is-false, pick-true}
+use Rattle.sudoku.proofs.Walks.{by-test, both-false-left, both-false-right, not-is-false, pick-true}
 use Rattle.sudoku.proofs.Each.{Each, each-to, each-map}
 use Rattle.puzzle.specs.declared.Given.{Given}
 use Rattle.puzzle.specs.Givens.{isOn, ascending, givenCells}
@@ -27,8 +27,9 @@ use Rattle.journal.specs.StoredChecks.{Stored, judge, storedAll}
 use Rattle.journal.proofs.Memory.{length-over, take-over-end}
 use Rattle.board.specs.declared.Board.{Board}
 use Rattle.board.specs.Board.{stateOf, countsOf, boardOf, fresh}
-use Rattle.board.specs.Open.{answer, noMoves, noChecks, lentLengths, turnedAway}
+use Rattle.board.specs.Open.{answer, noMoves, noChecks, turnedAway}
 use Rattle.play.specs.Play.{Played, played}
+use Rattle.record.specs.declared.Asked.{Asked}
 use Rattle.record.specs.Items.{Parts}
 use Rattle.record.specs.Scan.{partsOfBytes}
 use Rattle.record.specs.Reopen.{replay, takeBackAll, toPlay, checksRefusal, judged, reopened, settledRecord, replayed, reopenOf}
@@ -36,7 +37,7 @@ use Rattle.record.proofs.ReadBack.{CheckFits, record-formed, record-parts}
 use Rattle.record.proofs.Readable.{InTime, Sized, Counted, Readable, readable-of}
 use Rattle.demands.specs.Book.{Book, made, performAll, stateIn, withMoves, slotsIn, asked, partsOfBook, recordIn}
 use Rattle.demands.specs.Demand3.{boardIn, reopenedBook}
-use Rattle.demands.proofs.Opening.{opens-ascending, opens-vouched}
+use Rattle.demands.proofs.Opening.{opens-ascending, opens-vouched, lengths-right}
 use Rattle.demands.proofs.Plays.{slots-length}
 use Rattle.demands.proofs.Reached.{reached-given}
 use Rattle.demands.proofs.Good.{Admitted, Good}
@@ -53,14 +54,6 @@ module _ (givens : List Given) (solution : List ℕ) where
   admitted-asks c a =
       record { grid = a .grid; free = a .free; range = a .range; some = λ e. omega (arith, a .some, e); unfinished = a .unfinished }
 
-  admitted-time : (c : Stored) → Admitted givens solution c → InTime (asked c)
-  unfolding asked
-  admitted-time c a = a .few
-
-  admitted-fits : (c : Stored) → Admitted givens solution c → CheckFits (asked c)
-  unfolding asked
-  admitted-fits c a = omega (arith, a .few)
-
   -- and judges it as it was judged
   judged-same : (cs : List Stored) → Each (Admitted givens solution) cs → map (judged solution) (map asked cs) ≡ cs
   unfolding Each judged judge asked
@@ -76,24 +69,25 @@ module _ (k : Book) (g : Good k) where
   undone-fits : made k - k .standing < 65536
   undone-fits = omega (arith, g .few)
 
+  -- what is true of every check that reopening admits
+  all-asked : (P : Asked → Type 0) → ((c : Stored) → Admitted (k .givens) (k .solution) c → P (asked c)) → Each P (map asked (k .checks))
+  all-asked P f = each-map P asked (k .checks) (each-to (Admitted (k .givens) (k .solution)) (λ (c : Stored). P (asked c)) f (k .checks) (g .admitted))
+
   all-fit : Each CheckFits (map asked (k .checks))
-  all-fit =
-      each-map CheckFits asked (k .checks)
-      (each-to (Admitted (k .givens) (k .solution)) (λ (c : Stored). CheckFits (asked c)) (admitted-fits (k .givens) (k .solution)) (k .checks) (g .admitted))
+  unfolding asked
+  all-fit = all-asked CheckFits (λ c a. omega (arith, a .few))
 
   parts-back : partsOfBytes (recordIn k) ≡ partsOfBook k
   unfolding recordIn partsOfBook
   parts-back = record-parts (partsOfBook k) undone-fits all-fit
 
   book-sized : Sized (partsOfBook k)
-  unfolding partsOfBook made
+  unfolding partsOfBook made asked
   book-sized =
       record {
         moves = g .few;
         checks = omega (arith, g .fewChecks, length-map (k .checks) asked);
-        in-time =
-            each-map InTime asked (k .checks)
-            (each-to (Admitted (k .givens) (k .solution)) (λ (c : Stored). InTime (asked c)) (admitted-time (k .givens) (k .solution)) (k .checks) (g .admitted));
+        in-time = all-asked InTime (λ c a. a .few);
       }
 
   book-counted : Counted (partsOfBook k)
@@ -189,10 +183,8 @@ module _ (k : Book) (g : Good k) where
   unfolding allStand boardOf
   checks-admitted =
       admits-all (allStand (k .solution) last (made k)) 1 (map asked (k .checks))
-      (each-map (Asks (last .given) (k .solution)) asked (k .checks)
-      (each-to (Admitted (k .givens) (k .solution)) (λ (c : Stored). Asks (last .given) (k .solution) (asked c))
-      (λ c a. subst (λ (l : List ℕ). Asks l (k .solution) (asked c)) (sym last-given) (admitted-asks (k .givens) (k .solution) c a))
-      (k .checks) (g .admitted)))
+      (all-asked (Asks (last .given) (k .solution))
+      (λ c a. subst (λ (l : List ℕ). Asks l (k .solution) (asked c)) (sym last-given) (admitted-asks (k .givens) (k .solution) c a)))
 
   -- ---- what is handed back
 
@@ -221,11 +213,9 @@ module _ (k : Book) (g : Good k) where
 
   pub book-reopens : (journal checks : List ℕ) → length journal ≡ journalBytes → length checks ≡ checkMemory
       → reopenOf (recordIn k) (k .solution) journal checks ≡ reopenedBook k
-  unfolding reopenOf lentLengths
+  unfolding reopenOf
   book-reopens journal checks j c =
-      pick-true _ _ _
-      (both-true _ _ (eq-eqb (length journal) journalBytes j)
-      (both-true _ _ (eq-eqb (length checks) checkMemory c) (eq-eqb (length (k .solution)) 81 (g .opens .cells))))
+      pick-true _ _ _ (lengths-right (k .solution) journal checks (g .opens .cells) j c)
       ∙ pick-true _ _ _ (accepts _ (readable-of (recordIn k) (k .solution) book-readable))
       ∙ ap (λ (p : Parts). replayed p (k .solution)) parts-back
       ∙ book-replayed

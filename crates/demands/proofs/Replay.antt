@@ -1,16 +1,15 @@
 -- Reopening's replay: a record's moves performed on the fresh board fill the journal with their slots, and are accepted exactly where they play;
 -- and taking back n moves of a book's board lowers its standing count by n.
 -- Assumes nothing.
-use Prim.Native.Nat.{ℕ, zero, suc, _+_, _-_, _*_, _≤_, _<_, min}
+use Prim.Native.Nat.{ℕ, zero, suc, _+_, _-_, _*_, _≤_, _<_}
 use mathlib.Core.Path.{_≡_, refl, sym, ap, _∙_}
 use mathlib.Core.Bool.{true, false}
 use mathlib.Core.List.{List, [], _∷_, _++_, append-assoc, append-nil}
 use native.Mathlib.Nat.{zero-add}
 use native.Mathlib.Omega.{arith}
-use lib.Dec.{eqb, leb, ltb}
+use lib.Dec.{eqb}
 use lib.ListN.{length, length-append, length-replicate}
-use lib.Seq.{take-all}
-use borrow.Author.Tests.{eq-eqb, eqb-true, lt-leb, ltb-true, ltb-false}
+use borrow.Author.Tests.{eq-eqb, eqb-true}
 use Rattle.puzzle.specs.Givens.{isOn}
 use Rattle.sudoku.specs.Tests.{first}
 use Rattle.sudoku.proofs.Walks.{by-test, not-both-ways, pick-true, pick-false}
@@ -19,7 +18,7 @@ use Rattle.puzzle.specs.Refusals.{refusal, accepted, isAccepted}
 use Rattle.journal.specs.declared.Move.{Move}
 use Rattle.journal.specs.declared.Counts.{Counts}
 use Rattle.journal.specs.Limits.{maxMoves, slotBytes, journalBytes}
-use Rattle.journal.specs.Counts.{counts, recorded}
+use Rattle.journal.specs.Counts.{counts}
 use Rattle.journal.specs.Bytes.{over}
 use Rattle.journal.specs.State.{State, opening, perform}
 use Rattle.journal.specs.Slots.{slotFor, bytesOf}
@@ -33,40 +32,25 @@ use Rattle.record.specs.Reopen.{replay, takeBackAll}
 use Rattle.calls.specs.declared.Call.the-variants.{Undo}
 use Rattle.demands.specs.Book.{Book, performAll, stateIn, refusedBy, taken, withMoves, slotsFrom}
 use Rattle.demands.specs.Demand3.{boardIn}
-use Rattle.demands.proofs.Plays.{Passes, Plays, plays-next}
+use Rattle.demands.proofs.Plays.{Passes, Plays, recorded-one}
 use Rattle.demands.proofs.Refusals.{passes-unsolved}
+use Rattle.demands.proofs.Reached.{on-the-way}
 use Rattle.demands.proofs.Making.{undo-accepted}
 use Rattle.demands.proofs.Good.{Good, good-taken}
 use Rattle.demands.proofs.Held.{Held}
-use Rattle.demands.proofs.Steps.{undo-board, undo-held}
+use Rattle.demands.proofs.Steps.{undo-board, held-standing}
 
 -- a board with i moves, all standing, and no checks
 unfoldable pub allStand : List ℕ → State → ℕ → Board
 allStand solution s i = boardOf s solution (counts i i) 0
 
-module _ (solution : List ℕ) (s : State) (i : ℕ) where
-  stand-solved : allStand solution s i .solved ≡ s .solved
-  unfolding allStand boardOf
-  stand-solved = refl
-
-  pub stand-state : stateOf (allStand solution s i) ≡ s
-  unfolding allStand boardOf stateOf
-  stand-state = refl
-
-  stand-tests : (m : Move) → first (moveTests (stateOf (allStand solution s i)) m) ≡ first (moveTests s m)
-  stand-tests m = ap (λ (t : State). first (moveTests t m)) stand-state
-
 module _ (solution : List ℕ) (memory : List ℕ) where
-  counted : (i : ℕ) → i < maxMoves → recorded (counts i i) ≡ counts (i + 1) (i + 1)
-  unfolding recorded
-  counted i h = pick-false (leb maxMoves i) _ _ (lt-leb maxMoves i h) ∙ ap (λ (n : ℕ). counts n n) {x = min i i + 1} {y = i + 1} (omega arith)
-
   -- one move recorded behind i moves' slots
   one-recorded : (s : State) (m : Move) (i : ℕ) (slots : List ℕ) → i < maxMoves → length slots ≡ slotBytes * i → length memory ≡ journalBytes
       → recordMove (allStand solution s i) (over memory 0 slots) m ≡ played accepted (allStand solution (perform s m) (i + 1)) (over memory 0 (slots ++ bytesOf (slotFor s m)))
   unfolding recordMove allStand boardOf moved stateOf countsOf bytesOf
   one-recorded s m i slots room e size =
-      λ j. played accepted (boardOf (perform s m) solution (counted i room j) 0) (joined j)
+      λ j. played accepted (boardOf (perform s m) solution (recorded-one i i (omega arith) room j) 0) (joined j)
     where
       joined : over (over memory 0 slots) (slotBytes * i) (bytesOf (slotFor s m)) ≡ over memory 0 (slots ++ bytesOf (slotFor s m))
       joined =
@@ -76,7 +60,7 @@ module _ (solution : List ℕ) (memory : List ℕ) where
   next-board : (s : State) (m : Move) (i : ℕ) → i < maxMoves → (journal : List ℕ)
       → recordMove (allStand solution s i) journal m .answer .board ≡ allStand solution (perform s m) (i + 1)
   unfolding recordMove allStand boardOf moved stateOf countsOf
-  next-board s m i room journal = ap (λ (c : Counts). boardOf (perform s m) solution c 0) (counted i room)
+  next-board s m i room journal = ap (λ (c : Counts). boardOf (perform s m) solution c 0) (recorded-one i i (omega arith) room)
 
   longer : (s : State) (m : Move) (i : ℕ) (slots : List ℕ) → length slots ≡ slotBytes * i → length (slots ++ bytesOf (slotFor s m)) ≡ slotBytes * (i + 1)
   unfolding bytesOf
@@ -86,14 +70,14 @@ module _ (solution : List ℕ) (memory : List ℕ) where
   pub replay-plays : (s : State) (ms : List Move) (i n : ℕ) (slots : List ℕ) → Plays s ms → i + length ms ≤ maxMoves → length slots ≡ slotBytes * i
       → length memory ≡ journalBytes
       → replay (allStand solution s i) (over memory 0 slots) n ms ≡ played accepted (allStand solution (performAll s ms) (i + length ms)) (over memory 0 (slots ++ slotsFrom s ms))
-  unfolding replay Plays performAll slotsFrom Passes
+  unfolding replay Plays performAll slotsFrom Passes allStand boardOf stateOf
   replay-plays s [] i n slots p u e size = λ j. played accepted (allStand solution s (sum j)) (over memory 0 (sym (append-nil slots) j))
     where
       sum : i ≡ i + 0
       sum = omega arith
   replay-plays s (m ∷ ms) i n slots p u e size =
-      pick-false (isOn (allStand solution s i .solved)) _ _ (ap (λ (x : ℕ). isOn x) (stand-solved solution s i) ∙ passes-unsolved s m (p .0))
-      ∙ pick-true (eqb (first (moveTests (stateOf (allStand solution s i)) m)) 0) _ _ (eq-eqb (first (moveTests (stateOf (allStand solution s i)) m)) 0 (stand-tests solution s i m ∙ p .0))
+      pick-false (isOn (s .solved)) _ _ (passes-unsolved s m (p .0))
+      ∙ pick-true (eqb (first (moveTests s m)) 0) _ _ (eq-eqb (first (moveTests s m)) 0 (p .0))
       ∙ ap (λ (x : Played). replay (x .answer .board) (x .journal) (suc n) ms) (one-recorded s m i slots (omega arith) e size)
       ∙ replay-plays (perform s m) ms (i + 1) (suc n) (slots ++ bytesOf (slotFor s m)) (p .1) (omega arith) (longer s m i slots e) size
       ∙ (λ j. played accepted (allStand solution (performAll (perform s m) ms) (sum j)) (over memory 0 (append-assoc slots (bytesOf (slotFor s m)) (slotsFrom (perform s m) ms) j)))
@@ -104,27 +88,27 @@ module _ (solution : List ℕ) (memory : List ℕ) where
   -- moves that were all performed play
   pub replay-accepted : (s : State) (ms : List Move) (i n : ℕ) (journal : List ℕ) → i + length ms ≤ maxMoves
       → isAccepted (replay (allStand solution s i) journal n ms .answer .refusal) ≡ true → Plays s ms
-  unfolding replay Plays Passes isAccepted
+  unfolding replay Plays Passes isAccepted allStand boardOf stateOf
   replay-accepted s [] i n journal u p = tt
   replay-accepted s (m ∷ ms) i n journal u p =
-      by-test (isOn (allStand solution s i .solved))
-      (λ t. absurd (not-both-ways false (sym (ap (λ (x : Played). isAccepted (x .answer .refusal)) (pick-true (isOn (allStand solution s i .solved)) _ _ t)) ∙ p) refl))
+      by-test (isOn (s .solved))
+      (λ t. absurd (not-both-ways false (sym (ap (λ (x : Played). isAccepted (x .answer .refusal)) (pick-true (isOn (s .solved)) _ _ t)) ∙ p) refl))
       (λ t.
-      by-test (eqb (first (moveTests (stateOf (allStand solution s i)) m)) 0)
+      by-test (eqb (first (moveTests s m)) 0)
       (λ v. (
-        sym (stand-tests solution s i m) ∙ eqb-true (first (moveTests (stateOf (allStand solution s i)) m)) 0 v,
+        eqb-true (first (moveTests s m)) 0 v,
         replay-accepted (perform s m) ms (i + 1) (suc n) (recordMove (allStand solution s i) journal m .journal) (omega arith)
             (sym
             (ap (λ (x : Played). isAccepted (x .answer .refusal))
-            (pick-false (isOn (allStand solution s i .solved)) _ _ t
-            ∙ pick-true (eqb (first (moveTests (stateOf (allStand solution s i)) m)) 0) _ _ v
+            (pick-false (isOn (s .solved)) _ _ t
+            ∙ pick-true (eqb (first (moveTests s m)) 0) _ _ v
             ∙ ap (λ (b : Board). replay b (recordMove (allStand solution s i) journal m .journal) (suc n) ms) (next-board s m i (omega arith) journal)))
             ∙ p),
       ))
       (λ v. absurd (not-both-ways false
       (sym
       (ap (λ (x : Played). isAccepted (x .answer .refusal))
-      (pick-false (isOn (allStand solution s i .solved)) _ _ t ∙ pick-false (eqb (first (moveTests (stateOf (allStand solution s i)) m)) 0) _ _ v)) ∙ p) refl)))
+      (pick-false (isOn (s .solved)) _ _ t ∙ pick-false (eqb (first (moveTests s m)) 0) _ _ v)) ∙ p) refl)))
 
 -- on the fresh board
 pub replay-fresh : (givens : List Given) (solution : List ℕ) (ms : List Move) → Plays (opening givens) ms → length ms ≤ maxMoves
@@ -143,24 +127,16 @@ replay-fresh-plays givens solution ms h p = replay-accepted solution noMoves (op
 
 -- ---- taking back
 
--- in a book whose last position is unsolved, every position is
-pub book-unsolved : (k : Book) → Good k → isOn (performAll (opening (k .givens)) (k .moves) .solved) ≡ false → isOn (stateIn k .solved) ≡ false
-unfolding stateIn
-book-unsolved k g p =
-    by-test (ltb (k .standing) (length (k .moves)))
-    (λ t. passes-unsolved _ _ (plays-next (opening (k .givens)) (k .moves) (k .standing) (ltb-true (k .standing) (length (k .moves)) t) (g .plays)))
-    (λ t. ap (λ (l : List Move). isOn (performAll (opening (k .givens)) l .solved)) (take-all (k .standing) (k .moves) (ltb-false (k .standing) (length (k .moves)) t)) ∙ p)
-
 -- n moves of a book's board taken back
 pub back-all : (n : ℕ) (k : Book) (journal checks : List ℕ) → Good k → Held journal checks k → n ≤ k .standing
     → (1 ≤ n → isOn (performAll (opening (k .givens)) (k .moves) .solved) ≡ false)
     → takeBackAll n (boardIn k) journal ≡ boardIn (withMoves k (k .moves) (k .standing - n))
-unfolding takeBackAll withMoves taken
+unfolding takeBackAll withMoves taken stateIn
 back-all zero k journal checks g h u p = ap (λ (i : ℕ). boardIn (withMoves k (k .moves) i)) {x = k .standing} {y = k .standing - 0} (omega arith)
 back-all (suc n) k journal checks g h u p =
     ap (λ (a : Answer). takeBackAll n (a .board) journal) (undo-board k journal checks g h may)
-    ∙ back-all n (taken k Undo) journal checks (good-taken k g Undo may) (undo-held k journal checks g h) (omega arith) (λ v. p (omega arith))
+    ∙ back-all n (taken k Undo) journal checks (good-taken k g Undo may) (held-standing k journal checks g h (k .standing - 1)) (omega arith) (λ v. p (omega arith))
     ∙ ap (λ (i : ℕ). boardIn (withMoves k (k .moves) i)) {x = k .standing - 1 - n} {y = k .standing - suc n} (omega arith)
   where
     may : refusedBy k Undo ≡ 0
-    may = undo-accepted k (book-unsolved k g (p (omega arith))) (omega arith)
+    may = undo-accepted k (on-the-way (opening (k .givens)) (k .moves) (g .plays) (p (omega arith)) (k .standing)) (omega arith)

@@ -1,6 +1,6 @@
 -- Each call on the board that holds what a book holds: it answers what the book says, and leaves the board and the memory that hold the book after it.
 -- Assumes nothing.
-use Prim.Native.Nat.{ℕ, _+_, _-_, _*_, _<_, min}
+use Prim.Native.Nat.{ℕ, _+_, _-_, _*_, _<_}
 use mathlib.Core.Path.{_≡_, refl, sym, ap, subst, _∙_}
 use mathlib.Core.Bool.{Bool, true, false, not}
 use mathlib.Core.List.{List, [], _∷_, _++_}
@@ -33,8 +33,8 @@ use Rattle.calls.specs.declared.Call.the-variants.{Make, Undo, Redo, Check}
 use Rattle.calls.specs.Session.{Session, Called, called, callOf}
 use Rattle.demands.specs.Book.{Book, made, performAll, stateIn, refusedBy, taken, withMoves, checkIn, slotsIn, verdict, step, says}
 use Rattle.demands.specs.Demand3.{boardIn}
-use Rattle.demands.proofs.Plays.{Passes, moveNo, plays-take, plays-next, perform-append, perform-next}
-use Rattle.demands.proofs.Refusals.{passes-unsolved, passes-allowed, refused-make, refused-undo, refused-redo, refused-check}
+use Rattle.demands.proofs.Plays.{Passes, moveNo, plays-take, plays-next, perform-append, perform-next, recorded-one}
+use Rattle.demands.proofs.Refusals.{passes-unsolved, passes-allowed, refused-make, refused-undo, refused-redo, refused-check, step-taken, step-refused}
 use Rattle.demands.proofs.Reached.{reached-fit}
 use Rattle.demands.proofs.Good.{Good, make-room, undo-unsolved, undo-some, redo-some, check-room}
 use Rattle.demands.proofs.Held.{Held, good-board, held-slot, held-make, held-check}
@@ -56,36 +56,48 @@ module _ (k : Book) (journal checks : List ℕ) (c : Call) where
   agrees-accepted : (journal′ checks′ : List ℕ) → refusedBy k c ≡ 0
       → callOf (sessionOf k journal checks) c ≡ called accepted (verdict k c) (boardIn (taken k c)) journal′ checks′
       → Held journal′ checks′ (taken k c) → Agrees k journal checks c
-  unfolding called says step both
+  unfolding called says both
   agrees-accepted journal′ checks′ p e h =
       record {
         journalAfter = journal′;
         checksAfter = checks′;
         said = ap (λ (x : Called). x .said) e
             ∙ (λ i. record { refusal = refusal (sym p i) 0 0; right = both (eqb (sym p i) 0) (verdict k c) });
-        left = ap (λ (x : Called). x .left) e ∙ ap (λ (b : Book). sessionOf b journal′ checks′) (sym stepped);
-        held = subst (λ (b : Book). Held journal′ checks′ b) (sym stepped) h;
+        left = ap (λ (x : Called). x .left) e ∙ ap (λ (b : Book). sessionOf b journal′ checks′) (sym (step-taken k c p));
+        held = subst (λ (b : Book). Held journal′ checks′ b) (sym (step-taken k c p)) h;
       }
-    where
-      stepped : step k c ≡ taken k c
-      stepped = pick-true (eqb (refusedBy k c) 0) (taken k c) k (eq-eqb (refusedBy k c) 0 p)
 
   -- a refused call
   agrees-refused : eqb (refusedBy k c) 0 ≡ false
       → callOf (sessionOf k journal checks) c ≡ called (refusal (refusedBy k c) 0 0) false (boardIn k) journal checks
       → Held journal checks k → Agrees k journal checks c
-  unfolding called says step both
+  unfolding called says both
   agrees-refused p e h =
       record {
         journalAfter = journal;
         checksAfter = checks;
         said = ap (λ (x : Called). x .said) e ∙ (λ i. record { refusal = refusal (refusedBy k c) 0 0; right = both (sym p i) (verdict k c) });
-        left = ap (λ (x : Called). x .left) e ∙ ap (λ (b : Book). sessionOf b journal checks) (sym stepped);
-        held = subst (λ (b : Book). Held journal checks b) (sym stepped) h;
+        left = ap (λ (x : Called). x .left) e ∙ ap (λ (b : Book). sessionOf b journal checks) (sym (step-refused k c p));
+        held = subst (λ (b : Book). Held journal checks b) (sym (step-refused k c p)) h;
       }
-    where
-      stepped : step k c ≡ k
-      stepped = pick-false (eqb (refusedBy k c) 0) (taken k c) k p
+
+  -- either way
+  agrees-by : (journal′ checks′ : List ℕ) → Held journal checks k
+      → (refusedBy k c ≡ 0 → callOf (sessionOf k journal checks) c ≡ called accepted (verdict k c) (boardIn (taken k c)) journal′ checks′)
+      → (refusedBy k c ≡ 0 → Held journal′ checks′ (taken k c))
+      → (eqb (refusedBy k c) 0 ≡ false → callOf (sessionOf k journal checks) c ≡ called (refusal (refusedBy k c) 0 0) false (boardIn k) journal checks)
+      → Agrees k journal checks c
+  agrees-by journal′ checks′ h done holds refused =
+      by-test (eqb (refusedBy k c) 0) (λ t. let p = eqb-true (refusedBy k c) 0 t in agrees-accepted journal′ checks′ p (done p) (holds p))
+      (λ t. agrees-refused t (refused t) h)
+
+-- what a call hands back, by the number n that its own tests give, which is the book's number m
+module _ {A : Type 0} (n m : ℕ) (e : n ≡ m) (done : A) (refused : ℕ → A) where
+  was-done : m ≡ 0 → pick (eqb n 0) done (refused n) ≡ done
+  was-done p = pick-true (eqb n 0) done (refused n) (eq-eqb n 0 (e ∙ p))
+
+  was-refused : eqb m 0 ≡ false → pick (eqb n 0) done (refused n) ≡ refused m
+  was-refused p = pick-false (eqb n 0) done (refused n) (ap (λ (x : ℕ). eqb x 0) e ∙ p) ∙ ap refused e
 
 -- ---- place, erase and marks
 
@@ -111,16 +123,11 @@ module _ (k : Book) (journal checks : List ℕ) (g : Good k) (h : Held journal c
       ∙ perform-append (opening (k .givens)) (take (k .standing) (k .moves)) (m ∷ [])
 
   made-count : (m : Move) → k .standing < maxMoves → recorded (counts (made k) (k .standing)) ≡ counts (made (taken k (Make m))) (k .standing + 1)
-  unfolding recorded taken withMoves made
+  unfolding taken withMoves made
   made-count m room =
-      pick-false (leb maxMoves (k .standing)) _ _ (lt-leb maxMoves (k .standing) room)
-      ∙ (λ i. counts (one i) (two i))
-    where
-      two : min (length (k .moves)) (k .standing) + 1 ≡ k .standing + 1
-      two = omega (arith, g .within)
-
-      one : min (length (k .moves)) (k .standing) + 1 ≡ length (take (k .standing) (k .moves) ++ (m ∷ []))
-      one = omega (arith, g .within, length-append (take (k .standing) (k .moves)) (m ∷ []), length-take-le (k .standing) (k .moves) (g .within))
+      recorded-one (made k) (k .standing) (g .within) room
+      ∙ ap (λ (n : ℕ). counts n (k .standing + 1)) {x = k .standing + 1} {y = length (take (k .standing) (k .moves) ++ (m ∷ []))}
+      (omega (arith, length-append (take (k .standing) (k .moves)) (m ∷ []), length-take-le (k .standing) (k .moves) (g .within)))
 
   -- a move recorded gives the board of the book after it
   pub recorded-board : (m : Move) → k .standing < maxMoves
@@ -137,19 +144,19 @@ module _ (k : Book) (journal checks : List ℕ) (g : Good k) (h : Held journal c
   make-agrees : (m : Move) → Agrees k journal checks (Make m)
   unfolding playOf callOf verdict
   make-agrees m =
-      by-test (eqb (refusedBy k (Make m)) 0)
-      (λ t.
-      let p : refusedBy k (Make m) ≡ 0 = eqb-true (refusedBy k (Make m)) 0 t in
-      agrees-accepted k journal checks (Make m) (over journal (slotBytes * k .standing) (bytesOf (slotFor (stateIn k) m))) checks p
-      (ap (λ (x : Played). called (x .answer .refusal) false (x .answer .board) (x .journal) checks)
-      (pick-true (eqb (first (callTests (boardIn k) journal m)) 0) (recordMove (boardIn k) journal m) _ (ap (λ (n : ℕ). eqb n 0) (play-number m) ∙ t)
-      ∙ recorded-board m (room-for m p)))
-      (held-make journal checks k h m (g .within) (room-for m p)))
-      (λ t.
-      agrees-refused k journal checks (Make m) t
-      (ap (λ (x : Played). called (x .answer .refusal) false (x .answer .board) (x .journal) checks)
-      (pick-false (eqb (first (callTests (boardIn k) journal m)) 0) (recordMove (boardIn k) journal m) _ (ap (λ (n : ℕ). eqb n 0) (play-number m) ∙ t)
-      ∙ ap (λ (n : ℕ). played (refusal n 0 0) (boardIn k) journal) (play-number m))) h)
+      agrees-by k journal checks (Make m) (over journal (slotBytes * k .standing) (bytesOf (slotFor (stateIn k) m))) checks h
+      (λ p. ap said (was-done n (refusedBy k (Make m)) (play-number m) (recordMove (boardIn k) journal m) refused p ∙ recorded-board m (room-for m p)))
+      (λ p. held-make journal checks k h m (g .within) (room-for m p))
+      (λ t. ap said (was-refused n (refusedBy k (Make m)) (play-number m) (recordMove (boardIn k) journal m) refused t))
+    where
+      n : ℕ
+      n = first (callTests (boardIn k) journal m)
+
+      refused : ℕ → Played
+      refused i = played (refusal i 0 0) (boardIn k) journal
+
+      said : Played → Called
+      said x = called (x .answer .refusal) false (x .answer .board) (x .journal) checks
 
 -- ---- undo and redo
 
@@ -161,21 +168,11 @@ third-test false true c n p = refl
 third-test false false c n p = no-if c 14 [] (p refl refl)
 
 -- their numbers are not 14, whose place would be told
-not-fourteen : (a b : Bool) → eqb (first ((a ⇒ 4) ∷ (b ⇒ 12) ∷ [])) 14 ≡ false
-unfolding first pick
-not-fourteen true b = refl
-not-fourteen false true = refl
-not-fourteen false false = refl
-
-not-fourteen′ : (a b : Bool) → eqb (first ((a ⇒ 4) ∷ (b ⇒ 13) ∷ [])) 14 ≡ false
-unfolding first pick
-not-fourteen′ true b = refl
-not-fourteen′ false true = refl
-not-fourteen′ false false = refl
-
-no-place : (n slot : ℕ) → eqb n 14 ≡ false → slotRefusal n slot ≡ refusal n 0 0
-unfolding slotRefusal
-no-place n slot p = ap (λ (x : ℕ). refusal n x 0) (pick-false (eqb n 14) slot 0 p)
+no-place : (a b : Bool) (n slot : ℕ) → eqb n 14 ≡ false → slotRefusal (first ((a ⇒ 4) ∷ (b ⇒ n) ∷ [])) slot ≡ refusal (first ((a ⇒ 4) ∷ (b ⇒ n) ∷ [])) 0 0
+unfolding slotRefusal first pick
+no-place true b n slot p = refl
+no-place false true n slot p = ap (λ (t : Bool). refusal n (pick t slot 0) 0) p
+no-place false false n slot p = refl
 
 -- a move n + 1 that is made, in the states before it and after it
 module _ (k : Book) (g : Good k) (n : ℕ) (u : n < made k) where
@@ -219,6 +216,15 @@ module _ (k : Book) (g : Good k) (n : ℕ) (u : n < made k) where
       ∙ stands-found beforeIt itsMove it-allowed)
 
 module _ (k : Book) (journal checks : List ℕ) (g : Good k) (h : Held journal checks k) where
+  -- what undo and redo leave: the board alone is another
+  unfoldable said : Answer → Called
+  said x = called (x .refusal) false (x .board) journal checks
+
+  -- the same moves are held with any standing count
+  pub held-standing : (n : ℕ) → Held journal checks (withMoves k (k .moves) n)
+  unfolding withMoves made slotsIn
+  held-standing n = record { slots = h .slots; journalLength = h .journalLength; stored = h .stored; checksLength = h .checksLength }
+
   -- ---- undo
 
   module _ (some : k .standing ≡ 0 → ⊥) where
@@ -278,33 +284,19 @@ module _ (k : Book) (journal checks : List ℕ) (g : Good k) (h : Held journal c
   pub undo-board : refusedBy k Undo ≡ 0 → undoOf (boardIn k) journal ≡ answer accepted (boardIn (taken k Undo))
   unfolding undoOf boardIn boardOf
   undo-board p =
-      pick-true (eqb (first (undoTests (boardIn k) journal)) 0) _ _ (ap (λ (n : ℕ). eqb n 0) (undo-number ∙ p))
+      was-done (first (undoTests (boardIn k) journal)) (refusedBy k Undo) undo-number _ (λ n. answer (slotRefusal n (k .standing)) (boardIn k)) p
       ∙ ap (answer accepted) (undone-board (undo-some k p) (undo-unsolved k p))
 
   undo-refused : eqb (refusedBy k Undo) 0 ≡ false → undoOf (boardIn k) journal ≡ answer (refusal (refusedBy k Undo) 0 0) (boardIn k)
-  unfolding undoOf
+  unfolding undoOf boardIn boardOf
   undo-refused t =
-      pick-false (eqb (first (undoTests (boardIn k) journal)) 0) _ _ (ap (λ (n : ℕ). eqb n 0) undo-number ∙ t)
-      ∙ ap (λ (r : Refusal). answer r (boardIn k))
-      (ap (λ (n : ℕ). slotRefusal n (boardIn k .standing)) undo-number
-      ∙ no-place (refusedBy k Undo) (boardIn k .standing)
-      (ap (λ (n : ℕ). eqb n 14) (refused-undo k) ∙ not-fourteen (isOn (stateIn k .solved)) (eqb (k .standing) 0)))
-
-  pub undo-held : Held journal checks (taken k Undo)
-  unfolding taken withMoves made slotsIn
-  undo-held = record { slots = h .slots; journalLength = h .journalLength; stored = h .stored; checksLength = h .checksLength }
+      was-refused (first (undoTests (boardIn k) journal)) (refusedBy k Undo) undo-number _ (λ n. answer (slotRefusal n (k .standing)) (boardIn k)) t
+      ∙ ap (λ (r : Refusal). answer r (boardIn k)) (rw (refused-undo k) (no-place (isOn (stateIn k .solved)) (eqb (k .standing) 0) 12 (k .standing) refl))
 
   undo-agrees : Agrees k journal checks Undo
-  unfolding callOf verdict
+  unfolding callOf verdict said taken
   undo-agrees =
-      by-test (eqb (refusedBy k Undo) 0)
-      (λ t.
-      let p : refusedBy k Undo ≡ 0 = eqb-true (refusedBy k Undo) 0 t in
-      agrees-accepted k journal checks Undo journal checks p
-      (ap (λ (x : Answer). called (x .refusal) false (x .board) journal checks) (undo-board p)) undo-held)
-      (λ t.
-      agrees-refused k journal checks Undo t
-      (ap (λ (x : Answer). called (x .refusal) false (x .board) journal checks) (undo-refused t)) h)
+      agrees-by k journal checks Undo journal checks h (λ p. ap said (undo-board p)) (λ p. held-standing (k .standing - 1)) (λ t. ap said (undo-refused t))
 
   -- ---- redo
 
@@ -360,33 +352,19 @@ module _ (k : Book) (journal checks : List ℕ) (g : Good k) (h : Held journal c
   redo-board : refusedBy k Redo ≡ 0 → redoOf (boardIn k) journal ≡ answer accepted (boardIn (taken k Redo))
   unfolding redoOf boardIn boardOf
   redo-board p =
-      pick-true (eqb (first (redoTests (boardIn k) journal)) 0) _ _ (ap (λ (n : ℕ). eqb n 0) (redo-number ∙ p))
+      was-done (first (redoTests (boardIn k) journal)) (refusedBy k Redo) redo-number _ (λ n. answer (slotRefusal n (k .standing + 1)) (boardIn k)) p
       ∙ ap (answer accepted) (redone-board (redo-some k p))
 
   redo-refused : eqb (refusedBy k Redo) 0 ≡ false → redoOf (boardIn k) journal ≡ answer (refusal (refusedBy k Redo) 0 0) (boardIn k)
-  unfolding redoOf
+  unfolding redoOf boardIn boardOf
   redo-refused t =
-      pick-false (eqb (first (redoTests (boardIn k) journal)) 0) _ _ (ap (λ (n : ℕ). eqb n 0) redo-number ∙ t)
-      ∙ ap (λ (r : Refusal). answer r (boardIn k))
-      (ap (λ (n : ℕ). slotRefusal n (boardIn k .standing + 1)) redo-number
-      ∙ no-place (refusedBy k Redo) (boardIn k .standing + 1)
-      (ap (λ (n : ℕ). eqb n 14) (refused-redo k) ∙ not-fourteen′ (isOn (stateIn k .solved)) (eqb (k .standing) (made k))))
-
-  redo-held : Held journal checks (taken k Redo)
-  unfolding taken withMoves made slotsIn
-  redo-held = record { slots = h .slots; journalLength = h .journalLength; stored = h .stored; checksLength = h .checksLength }
+      was-refused (first (redoTests (boardIn k) journal)) (refusedBy k Redo) redo-number _ (λ n. answer (slotRefusal n (k .standing + 1)) (boardIn k)) t
+      ∙ ap (λ (r : Refusal). answer r (boardIn k)) (rw (refused-redo k) (no-place (isOn (stateIn k .solved)) (eqb (k .standing) (made k)) 13 (k .standing + 1) refl))
 
   redo-agrees : Agrees k journal checks Redo
-  unfolding callOf verdict
+  unfolding callOf verdict said taken
   redo-agrees =
-      by-test (eqb (refusedBy k Redo) 0)
-      (λ t.
-      let p : refusedBy k Redo ≡ 0 = eqb-true (refusedBy k Redo) 0 t in
-      agrees-accepted k journal checks Redo journal checks p
-      (ap (λ (x : Answer). called (x .refusal) false (x .board) journal checks) (redo-board p)) redo-held)
-      (λ t.
-      agrees-refused k journal checks Redo t
-      (ap (λ (x : Answer). called (x .refusal) false (x .board) journal checks) (redo-refused t)) h)
+      agrees-by k journal checks Redo journal checks h (λ p. ap said (redo-board p)) (λ p. held-standing (k .standing + 1)) (λ t. ap said (redo-refused t))
 
   -- ---- check
 
@@ -412,19 +390,20 @@ module _ (k : Book) (journal checks : List ℕ) (g : Good k) (h : Held journal c
     check-agrees : Agrees k journal checks (Check row column)
     unfolding callOf verdict checkOf boardIn boardOf
     check-agrees =
-        by-test (eqb (refusedBy k (Check row column)) 0)
-        (λ t.
-        let p : refusedBy k (Check row column) ≡ 0 = eqb-true (refusedBy k (Check row column)) 0 t in
-        agrees-accepted k journal checks (Check row column) journal (over checks (checkBytes * length (k .checks)) (storedBytes (checkIn k row column))) p
-        (ap (λ (x : CheckPlayed). called (x .answer .refusal) (x .answer .right) (x .answer .board) journal (x .checks))
-        (pick-true (eqb (first (checkTests (boardIn k) checks row column)) 0) _ _ (ap (λ (n : ℕ). eqb n 0) check-number ∙ t)
+        agrees-by k journal checks (Check row column) journal (over checks (checkBytes * length (k .checks)) (storedBytes (checkIn k row column))) h
+        (λ p. ap left (was-done n (refusedBy k (Check row column)) check-number _ refused p
         ∙ (λ i. checked accepted (same-check i .right) (checked-board i) (over checks (checkBytes * length (k .checks)) (storedBytes (same-check i))))))
-        (held-check journal checks k h row column (omega (arith, check-room k row column p, g .fewChecks))))
-        (λ t.
-        agrees-refused k journal checks (Check row column) t
-        (ap (λ (x : CheckPlayed). called (x .answer .refusal) (x .answer .right) (x .answer .board) journal (x .checks))
-        (pick-false (eqb (first (checkTests (boardIn k) checks row column)) 0) _ _ (ap (λ (n : ℕ). eqb n 0) check-number ∙ t)
-        ∙ ap (λ (n : ℕ). checked (refusal n 0 0) false (boardIn k) checks) check-number)) h)
+        (λ p. held-check journal checks k h row column (omega (arith, check-room k row column p, g .fewChecks)))
+        (λ t. ap left (was-refused n (refusedBy k (Check row column)) check-number _ refused t))
+      where
+        n : ℕ
+        n = first (checkTests (boardIn k) checks row column)
+
+        refused : ℕ → CheckPlayed
+        refused i = checked (refusal i 0 0) false (boardIn k) checks
+
+        left : CheckPlayed → Called
+        left x = called (x .answer .refusal) (x .answer .right) (x .answer .board) journal (x .checks)
 
   -- ---- each call
 

@@ -26,8 +26,8 @@ use Rattle.demands.specs.Book.{Book, made, stateIn, slotsIn, asked, part
 use Rattle.demands.specs.Demand3.{boardIn, writeSession}
 use Rattle.demands.proofs.Opening.{opens-grid, opens-rising, opening-given, opening-fit}
 use Rattle.demands.proofs.Slots.{journal-moves, journal-sound}
-use Rattle.demands.proofs.Reached.{reached-given, reached-is-given, digits-kept}
-use Rattle.demands.proofs.Good.{Admitted, Good, standing-plays}
+use Rattle.demands.proofs.Reached.{digits-kept}
+use Rattle.demands.proofs.Good.{Admitted, Good, standing-plays, good-given, good-is-given}
 use Rattle.demands.proofs.Held.{Held, good-board}
 use Rattle.demands.proofs.Steps.{sessionOf}
 
@@ -40,8 +40,8 @@ book-short k g =
 
 module _ (k : Book) (journal checks : List ℕ) (g : Good k) (h : Held journal checks k) where
   same-given : boardIn k .given ≡ givenCells (k .givens)
-  unfolding boardIn boardOf stateIn
-  same-given = reached-given (k .givens) (k .solution) (g .opens) (take (k .standing) (k .moves)) (standing-plays k g)
+  unfolding boardIn boardOf
+  same-given = good-given k g
 
   same-givens : givensOf (boardIn k) ≡ k .givens
   unfolding boardIn boardOf stateIn opening digitAt
@@ -67,15 +67,8 @@ module _ (k : Book) (journal checks : List ℕ) (g : Good k) (h : Held journal c
       λ i. record { givens = same-givens i; moves = same-moves i; undone = made k - k .standing; checks = same-asked i }
 
   check-sound : (c : Stored) → Admitted (k .givens) (k .solution) c → CheckSound (stateIn k) c
-  unfolding stateIn
   check-sound c a =
-      record {
-        grid = a .grid;
-        free = reached-is-given (k .givens) (k .solution) (g .opens) (take (k .standing) (k .moves)) (standing-plays k g) (cellOf (c .row) (c .column)) ∙ a .free;
-        some = a .some;
-        in-time = a .few;
-        range = a .range;
-      }
+      record { grid = a .grid; free = good-is-given k g (cellOf (c .row) (c .column)) ∙ a .free; some = a .some; in-time = a .few; range = a .range }
 
   write-accepted : (output : List ℕ) → length output ≡ recordBytes → writeRefusal (boardIn k) journal checks output ≡ accepted
   unfolding writeRefusal boardIn boardOf stateOf made opening stateIn recordIn slotsIn

@@ -7,7 +7,7 @@ use mathlib.Core.List.{List, [], _∷_, _++_, map}
 use lib.Dec.{eqb}
 use lib.ListN.{length, take}
 use Rattle.puzzle.specs.Givens.{isOn}
-use Rattle.sudoku.specs.Tests.{_⇒_, first, pick, both}
+use Rattle.sudoku.specs.Tests.{_⇒_, first, pick, both, either}
 use Rattle.sudoku.specs.Grid.{inRange, onGrid, cellOf}
 use Rattle.note.specs.Note.{contains}
 use Rattle.puzzle.specs.declared.Given.{Given}
@@ -15,7 +15,7 @@ use Rattle.puzzle.specs.Refusals.{refusal}
 use Rattle.journal.specs.declared.Move.{Move}
 use Rattle.journal.specs.declared.Move.the-variants.{Place, Erase, WriteMark, StrikeMark}
 use Rattle.journal.specs.Limits.{maxMoves, maxChecks}
-use Rattle.journal.specs.State.{State, opening, isGiven, digitAt, noteAt, holdsPlayersDigit, acceptsMarks, rowIn, columnIn, target, perform}
+use Rattle.journal.specs.State.{State, opening, isGiven, digitAt, noteAt, holdsPlayersDigit, acceptsMarks, rowIn, columnIn, digitIn, target, perform}
 use Rattle.journal.specs.Slots.{slotFor, bytesOf}
 use Rattle.journal.specs.StoredChecks.{Stored, judge}
 use Rattle.record.specs.declared.Asked.{Asked}
@@ -48,6 +48,47 @@ performAll s (m ∷ ms) = performAll (perform s m) ms
 unfoldable pub stateIn : Book → State
 stateIn k = performAll (opening (k .givens)) (take (k .standing) (k .moves))
 
+-- the kinds of calls
+pub data Kind : Type 0 where
+  place erase writeMark strikeMark undo redo check : Kind
+
+unfoldable pub kindIn : Call → Kind
+kindIn (Make (Place row column digit)) = place
+kindIn (Make (Erase row column)) = erase
+kindIn (Make (WriteMark row column digit)) = writeMark
+kindIn (Make (StrikeMark row column digit)) = strikeMark
+kindIn Undo = undo
+kindIn Redo = redo
+kindIn (Check row column) = check
+
+-- a number for each kind, to tell them apart
+unfoldable pub ordinal : Kind → ℕ
+ordinal place = 1
+ordinal erase = 2
+ordinal writeMark = 3
+ordinal strikeMark = 4
+ordinal undo = 5
+ordinal redo = 6
+ordinal check = 7
+
+-- the call is of one of these kinds
+unfoldable pub isOf : List Kind → Call → Bool
+isOf [] c = false
+isOf (kind ∷ kinds) c = either (eqb (ordinal (kindIn c)) (ordinal kind)) (isOf kinds c)
+
+-- the cell and the digit that a call names; 0 where it names none
+unfoldable pub cellNamed : Call → ℕ
+cellNamed (Make m) = target m
+cellNamed Undo = 0
+cellNamed Redo = 0
+cellNamed (Check row column) = cellOf row column
+
+unfoldable pub digitNamed : Call → ℕ
+digitNamed (Make m) = digitIn m
+digitNamed Undo = 0
+digitNamed Redo = 0
+digitNamed (Check row column) = 0
+
 -- 3 NoSuchCell: the call names a position off the grid
 unfoldable pub noSuchCell : Call → Bool
 noSuchCell (Make m) = not (onGrid (rowIn m) (columnIn m))
@@ -57,100 +98,46 @@ noSuchCell (Check row column) = not (onGrid row column)
 
 -- 5 GivenCell (place)
 unfoldable pub givenCell : State → Call → Bool
-givenCell s (Make (Place row column digit)) = isGiven s (cellOf row column)
-givenCell s (Make (Erase row column)) = false
-givenCell s (Make (WriteMark row column digit)) = false
-givenCell s (Make (StrikeMark row column digit)) = false
-givenCell s Undo = false
-givenCell s Redo = false
-givenCell s (Check row column) = false
+givenCell s c = both (isOf (place ∷ []) c) (isGiven s (cellNamed c))
 
 -- 6 NoPlayersDigit (erase, check)
 unfoldable pub noPlayersDigit : State → Call → Bool
-noPlayersDigit s (Make (Place row column digit)) = false
-noPlayersDigit s (Make (Erase row column)) = not (holdsPlayersDigit s (cellOf row column))
-noPlayersDigit s (Make (WriteMark row column digit)) = false
-noPlayersDigit s (Make (StrikeMark row column digit)) = false
-noPlayersDigit s Undo = false
-noPlayersDigit s Redo = false
-noPlayersDigit s (Check row column) = not (holdsPlayersDigit s (cellOf row column))
+noPlayersDigit s c = both (isOf (erase ∷ check ∷ []) c) (not (holdsPlayersDigit s (cellNamed c)))
 
 -- 7 MarksNotAccepted (marks)
 unfoldable pub marksNotAccepted : State → Call → Bool
-marksNotAccepted s (Make (Place row column digit)) = false
-marksNotAccepted s (Make (Erase row column)) = false
-marksNotAccepted s (Make (WriteMark row column digit)) = not (acceptsMarks s (cellOf row column))
-marksNotAccepted s (Make (StrikeMark row column digit)) = not (acceptsMarks s (cellOf row column))
-marksNotAccepted s Undo = false
-marksNotAccepted s Redo = false
-marksNotAccepted s (Check row column) = false
+marksNotAccepted s c = both (isOf (writeMark ∷ strikeMark ∷ []) c) (not (acceptsMarks s (cellNamed c)))
 
 -- 8 DigitOutOfRange (place, write mark)
 unfoldable pub digitOutOfRange : Call → Bool
-digitOutOfRange (Make (Place row column digit)) = not (inRange digit)
-digitOutOfRange (Make (Erase row column)) = false
-digitOutOfRange (Make (WriteMark row column digit)) = not (inRange digit)
-digitOutOfRange (Make (StrikeMark row column digit)) = false
-digitOutOfRange Undo = false
-digitOutOfRange Redo = false
-digitOutOfRange (Check row column) = false
+digitOutOfRange c = both (isOf (place ∷ writeMark ∷ []) c) (not (inRange (digitNamed c)))
 
 -- 9 DigitAlreadyStands (place)
 unfoldable pub digitAlreadyStands : State → Call → Bool
-digitAlreadyStands s (Make (Place row column digit)) = eqb (digitAt s (cellOf row column)) digit
-digitAlreadyStands s (Make (Erase row column)) = false
-digitAlreadyStands s (Make (WriteMark row column digit)) = false
-digitAlreadyStands s (Make (StrikeMark row column digit)) = false
-digitAlreadyStands s Undo = false
-digitAlreadyStands s Redo = false
-digitAlreadyStands s (Check row column) = false
+digitAlreadyStands s c = both (isOf (place ∷ []) c) (eqb (digitAt s (cellNamed c)) (digitNamed c))
 
 -- 10 MarkAlreadyWritten (write mark)
 unfoldable pub markAlreadyWritten : State → Call → Bool
-markAlreadyWritten s (Make (Place row column digit)) = false
-markAlreadyWritten s (Make (Erase row column)) = false
-markAlreadyWritten s (Make (WriteMark row column digit)) = contains (noteAt s (cellOf row column)) digit
-markAlreadyWritten s (Make (StrikeMark row column digit)) = false
-markAlreadyWritten s Undo = false
-markAlreadyWritten s Redo = false
-markAlreadyWritten s (Check row column) = false
+markAlreadyWritten s c = both (isOf (writeMark ∷ []) c) (contains (noteAt s (cellNamed c)) (digitNamed c))
 
 -- 11 MarkNotThere (strike mark)
 unfoldable pub markNotThere : State → Call → Bool
-markNotThere s (Make (Place row column digit)) = false
-markNotThere s (Make (Erase row column)) = false
-markNotThere s (Make (WriteMark row column digit)) = false
-markNotThere s (Make (StrikeMark row column digit)) = not (contains (noteAt s (cellOf row column)) digit)
-markNotThere s Undo = false
-markNotThere s Redo = false
-markNotThere s (Check row column) = false
+markNotThere s c = both (isOf (strikeMark ∷ []) c) (not (contains (noteAt s (cellNamed c)) (digitNamed c)))
 
 -- 12 NothingToUndo, 13 NothingToRedo
 unfoldable pub nothingToUndo : Book → Call → Bool
-nothingToUndo k (Make m) = false
-nothingToUndo k Undo = eqb (k .standing) 0
-nothingToUndo k Redo = false
-nothingToUndo k (Check row column) = false
+nothingToUndo k c = both (isOf (undo ∷ []) c) (eqb (k .standing) 0)
 
 unfoldable pub nothingToRedo : Book → Call → Bool
-nothingToRedo k (Make m) = false
-nothingToRedo k Undo = false
-nothingToRedo k Redo = eqb (k .standing) (made k)
-nothingToRedo k (Check row column) = false
+nothingToRedo k c = both (isOf (redo ∷ []) c) (eqb (k .standing) (made k))
 
 -- 15 Standing is 1,024 and a move would be recorded
 unfoldable pub journalFull : Book → Call → Bool
-journalFull k (Make m) = eqb (k .standing) maxMoves
-journalFull k Undo = false
-journalFull k Redo = false
-journalFull k (Check row column) = false
+journalFull k c = both (isOf (place ∷ erase ∷ writeMark ∷ strikeMark ∷ []) c) (eqb (k .standing) maxMoves)
 
 -- 16 256 checks are stored (check)
 unfoldable pub checksFull : Book → Call → Bool
-checksFull k (Make m) = false
-checksFull k Undo = false
-checksFull k Redo = false
-checksFull k (Check row column) = eqb (length (k .checks)) maxChecks
+checksFull k c = both (isOf (check ∷ []) c) (eqb (length (k .checks)) maxChecks)
 
 -- a call to which 3 to 13, 15 or 16 applies in the book is refused by the lowest; 0 where none applies. 4 applies to every call on a solved board
 unfoldable pub refusedBy : Book → Call → ℕ

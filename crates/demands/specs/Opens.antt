@@ -1,13 +1,13 @@
 -- Givens open with a solution when none of 1, 19 and 22 to 27 applies. Stated in document 01's words, not by the tests of opening.
 -- Assumes nothing.
-use Prim.Native.Nat.{ℕ, _%_, _<_}
+use Prim.Native.Nat.{ℕ, _<_}
 use mathlib.Core.Path.{_≡_}
 use mathlib.Core.Bool.{true}
 use mathlib.Core.List.{List}
 use lib.ListN.{length, getD}
 use Rattle.sudoku.specs.Grid.{inRange, onGrid, cellOf, isCell, arePeers, at}
 use Rattle.puzzle.specs.declared.Given.{Given}
-use Rattle.puzzle.specs.Givens.{given, triples, precedes}
+use Rattle.puzzle.specs.Givens.{given, precedes}
 
 -- given i of a list, counted from 0
 unfoldable pub nth : List Given → ℕ → Given

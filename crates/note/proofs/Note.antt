@@ -3,9 +3,9 @@
 -- Assumes nothing.
 use mathlib.Core.Path.{_≡_, refl, sym, ap, _∙_}
 use mathlib.Core.Logic.{_≢_}
-use mathlib.Core.Bool.{Bool, true, false, not}
+use mathlib.Core.Bool.{true, false, not}
 use Prim.Native.Nat.{ℕ, zero, suc, _+_, _-_, _*_, _/_, _%_, _^_, _≤_, _<_}
-use native.Mathlib.Nat.{sub-add-cancel, div-one, zero-div, zero-mul, add-zero, add-comm, mul-comm, pow-suc}
+use native.Mathlib.Nat.{sub-add-cancel, div-one, zero-div, zero-mul, add-zero, add-comm, pow-suc}
 use native.Mathlib.Numerals.{add-one}
 use native.Mathlib.Omega.{arith}
 use lib.Bits.{bitAnd, bitOr, and-high, and-zero-r, or-add-and}
@@ -13,10 +13,10 @@ use lib.Dec.{eqb}
 use lib.Pow.{pow-pos}
 use borrow.Author.Tests.{ltb-true, lt-ltb, eq-eqb, ne-eqb, eqb-true, eqb-false}
 use Rattle.sudoku.specs.Tests.{pick, both, either, bit, count}
-use Rattle.sudoku.proofs.Walks.{by-test, pick-true, pick-false, length-among, count-le, count-none, both-left, both-right, both-second, both-false-right, either-first, either-right}
+use Rattle.sudoku.proofs.Walks.{by-test, pick-true, pick-false, length-among, count-le, both-left, both-right, both-second, both-false-right, either-first, either-right}
 use Rattle.sudoku.specs.Grid.{inRange}
 use Rattle.sudoku.proofs.Grid.{range-from, range-to, in-range}
-use Rattle.note.specs.Note.{contains, withMark, without, isNote, powerOf, lenOf, marks, isEmpty}
+use Rattle.note.specs.Note.{contains, withMark, without, isNote, powerOf, lenOf, marks}
 use Rattle.note.proofs.Bits.{power-le, bit-added, bit-removed, bit-added-other, bit-removed-other, added-fits, same-bits}
 
 -- ---- what the tests say in numbers
@@ -57,9 +57,6 @@ module _ (n d : ℕ) where
   unfolding withMark pick
   with-no-digit r = rw (no-digit r, r)
 
-  pub without-no-digit : inRange d ≡ false → without n d ≡ n
-  without-no-digit r = without-absent (no-digit r)
-
   -- ---- and else 2 ^ d comes or goes
 
   pub with-new : inRange d ≡ true → contains n d ≡ false → withMark n d ≡ n + 2 ^ d
@@ -88,33 +85,11 @@ with-absent n d h =
 pub without-power : (n d : ℕ) → contains n d ≡ true → without n d ≡ n - powerOf d
 without-power n d h = rw (power-digit d (contains-digit n d h)) (without-there n d h)
 
--- ---- the same by the mark's bit, without a test
-
 -- a number taken no or one time
 pub times-le : (x b : ℕ) → b ≤ 1 → x * b ≤ x
 times-le x zero h = omega arith
 times-le x (suc zero) h = omega arith
 times-le x (suc (suc b)) h = absurd (omega arith)
-
-added-by : (n p : ℕ) (b : Bool) → n + p * (1 - bit b) ≡ pick b n (n + p)
-unfolding bit pick
-added-by n p true = omega arith
-added-by n p false = omega arith
-
-taken-by : (n p : ℕ) (b : Bool) → n - p * bit b ≡ pick b (n - p) n
-unfolding bit pick
-taken-by n p true = omega arith
-taken-by n p false = omega arith
-
-with-bit : (n d : ℕ) → n + powerOf d * (1 - bit (contains n d)) ≡ withMark n d
-with-bit n d =
-    added-by n (powerOf d) (contains n d)
-    ∙ by-test (contains n d) (λ h. pick-true _ _ _ h ∙ sym (with-there n d h)) (λ h. pick-false _ _ _ h ∙ sym (with-absent n d h))
-
-without-bit : (n d : ℕ) → n - powerOf d * bit (contains n d) ≡ without n d
-without-bit n d =
-    taken-by n (powerOf d) (contains n d)
-    ∙ by-test (contains n d) (λ h. pick-true _ _ _ h ∙ sym (without-power n d h)) (λ h. pick-false _ _ _ h ∙ sym (without-absent n d h))
 
 -- each way that writing or striking goes: a property of the note after it holds if it holds in each
 with-cases : (n d : ℕ) (P : ℕ → Type 0) → P n → (inRange d ≡ true → n / 2 ^ d % 2 ≡ 0 → P (n + 2 ^ d)) → P (withMark n d)
@@ -234,58 +209,48 @@ len-count n = length-among (contains n) 9 1
 pub len-le : (n : ℕ) → lenOf n ≤ 9
 len-le n = rw (len-count n) (count-le (contains n) 9 1)
 
--- no mark stands in an empty note
-pub empty-contains : (n d : ℕ) → isEmpty n ≡ true → contains n d ≡ false
-unfolding isEmpty
-empty-contains n d h =
-    by-test (inRange d)
-    (λ r.
-    count-none (contains n) 9 1 d (sym (len-count n) ∙ eqb-true _ _ h) (range-from d r)
-    (omega (arith, range-to d r)))
-    (λ r. no-digit n d r)
-
 -- ---- the same by the operations on words: a note and the mark's value have the mark in common or nothing
 
 power-alone : (k : ℕ) → 2 ^ k ≡ 2 ^ (1 + k) - 2 ^ k
 power-alone k = let e : 2 ^ (1 + k) ≡ 2 ^ k * 2 = ap (λ (x : ℕ). 2 ^ x) (add-comm 1 k ∙ add-one k) ∙ pow-suc 2 k in omega arith
 
-and-power : (n d : ℕ) → bitAnd n (powerOf d) ≡ powerOf d * bit (contains n d)
-and-power n d =
-    by-test (inRange d)
-    (λ r. rw (power-digit d r, bit-of n d r) (ap (bitAnd n) (power-alone d) ∙ and-high n 1 d ∙ mul-comm (n / 2 ^ d % 2) (2 ^ d)))
-    (λ r. rw (power-no-digit d r) (and-zero-r n ∙ sym (zero-mul (bit (contains n d)))))
+and-digit : (n d : ℕ) → inRange d ≡ true → bitAnd n (powerOf d) ≡ n / 2 ^ d % 2 * 2 ^ d
+and-digit n d r = rw (power-digit d r) (ap (bitAnd n) (power-alone d) ∙ and-high n 1 d)
 
-once-or-not : (p : ℕ) (b : Bool) → p * (1 - bit b) + p * bit b ≡ p
-unfolding bit
-once-or-not p true = omega arith
-once-or-not p false = omega arith
+and-there : (n d : ℕ) → contains n d ≡ true → bitAnd n (powerOf d) ≡ powerOf d
+and-there n d h = let r = contains-digit n d h in and-digit n d r ∙ rw (contains-bit n d h, power-digit d r) (omega arith)
 
-times-tests : (p : ℕ) (b : Bool) → (b ≡ true → 0 < p) → not (eqb (p * bit b) 0) ≡ b
-unfolding bit
-times-tests p true h = ap not (ne-eqb (p * 1) 0 (λ e. omega (arith, e, h refl)))
-times-tests p false h = ap not (eq-eqb (p * 0) 0 (omega arith))
+and-absent : (n d : ℕ) → contains n d ≡ false → bitAnd n (powerOf d) ≡ 0
+and-absent n d h =
+    by-test (inRange d) (λ r. and-digit n d r ∙ rw (absent-bit n d r h) (zero-mul (2 ^ d))) (λ r. rw (power-no-digit d r) (and-zero-r n))
 
-times-there : (p : ℕ) (b : Bool) → 0 < p → eqb (p * bit b) p ≡ either false b
-unfolding bit either
-times-there p true h = eq-eqb (p * 1) p (omega arith)
-times-there p false h = ne-eqb (p * 0) p (λ e. omega (arith, e))
+power-some : (d : ℕ) → inRange d ≡ true → 0 < powerOf d
+power-some d r = rw (power-digit d r) (pow-pos d)
 
 pub power-tests : (n d : ℕ) → not (eqb (bitAnd n (powerOf d)) 0) ≡ contains n d
-power-tests n d = rw (and-power n d) (times-tests (powerOf d) (contains n d) (λ h. rw (power-digit d (contains-digit n d h)) (pow-pos d)))
+power-tests n d =
+    by-test (contains n d)
+    (λ h. rw (and-there n d h, h) (ap not (ne-eqb (powerOf d) 0 (λ e. omega (arith, e, power-some d (contains-digit n d h))))))
+    (λ h. rw (and-absent n d h, h))
 
 -- all of the mark's value is there where the mark is written, and of what is no digit nothing is missing
 pub power-there : (n d : ℕ) → eqb (bitAnd n (powerOf d)) (powerOf d) ≡ either (not (inRange d)) (contains n d)
 unfolding either
 power-there n d =
-    by-test (inRange d)
-    (λ r. rw (and-power n d, r) (times-there (powerOf d) (contains n d) (rw (power-digit d r) (pow-pos d))))
-    (λ r. rw (power-no-digit d r, r) (ap (λ (k : ℕ). eqb k 0) (and-zero-r n)))
+    by-test (contains n d)
+    (λ h. rw (and-there n d h, h, contains-digit n d h) (eq-eqb (powerOf d) (powerOf d) refl))
+    (λ h.
+    by-test (inRange d) (λ r. rw (and-absent n d h, h, r) (ne-eqb 0 (powerOf d) (λ e. omega (arith, e, power-some d r))))
+    (λ r. rw (and-absent n d h, power-no-digit d r, r)))
 
 pub or-power : (n d : ℕ) → bitOr n (powerOf d) ≡ withMark n d
-or-power n d = omega (arith, or-add-and n (powerOf d), and-power n d, once-or-not (powerOf d) (contains n d)) ∙ with-bit n d
+or-power n d =
+    by-test (contains n d) (λ h. omega (arith, or-add-and n (powerOf d), and-there n d h, with-there n d h))
+    (λ h. omega (arith, or-add-and n (powerOf d), and-absent n d h, with-absent n d h))
 
 pub less-power : (n d : ℕ) → n - bitAnd n (powerOf d) ≡ without n d
-less-power n d = rw (and-power n d) (without-bit n d)
+less-power n d =
+    by-test (contains n d) (λ h. omega (arith, and-there n d h, without-power n d h)) (λ h. omega (arith, and-absent n d h, without-absent n d h))
 
 -- the value of a mark fits a word
 pub power-below : (d : ℕ) → powerOf d < 65536
@@ -311,7 +276,3 @@ same-marks n m hn hm h = same-bits 10 n m (isNote-small n hn) (isNote-small m hm
     by (suc d) l =
         let r : inRange (suc d) ≡ true = in-range (suc d) (omega arith) (omega arith) in
         same-bit _ _ (rw (bit-contains n (suc d) r, bit-contains m (suc d) r) at (h (suc d) r))
-
--- an empty note is 0
-pub empty-zero : (n : ℕ) → isNote n ≡ true → isEmpty n ≡ true → n ≡ 0
-empty-zero n h e = same-marks n 0 h isNote-zero (λ d r. empty-contains n d e ∙ sym (contains-zero d))

@@ -2,12 +2,10 @@
 -- Assumes nothing.
 use Prim.Native.Nat.{ℕ, zero, suc, _+_, _≤_, _<_}
 use mathlib.Core.Path.{_≡_, refl, sym, ap, subst, _∙_}
-use mathlib.Core.Logic.{⊎-elim}
 use mathlib.Core.Bool.{Bool, true, false}
-use native.Mathlib.Nat.{eq-or-lt-of-le}
 use native.Mathlib.Omega.{arith}
 use Rattle.sudoku.specs.Tests.{pick}
-use Rattle.sudoku.proofs.Walks.{by-test, not-both-ways, pick-true, pick-false}
+use Rattle.sudoku.proofs.Walks.{by-test, not-both-ways, from-here, pick-true, pick-false}
 use Rattle.puzzle.specs.declared.Refusal.{Refusal}
 use Rattle.puzzle.specs.Refusals.{accepted, isAccepted, refusedIf, orElse, firstRefused}
 
@@ -67,6 +65,5 @@ pub first-at : (f : ℕ → Refusal) (n i : ℕ) → isAccepted (firstRefused f 
 unfolding firstRefused
 first-at f zero i h k l u = absurd (omega arith)
 first-at f (suc n) i h k l u =
-    ⊎-elim (λ (e : i ≡ k). subst (λ (m : ℕ). isAccepted (f m) ≡ true) e (or-else-left (f i) (firstRefused f n (suc i)) h))
-    (λ (b : suc i ≤ k). first-at f n (suc i) (or-else-right (f i) (firstRefused f n (suc i)) h) k b (omega arith))
-    (eq-or-lt-of-le l)
+    from-here i k l (λ e. subst (λ (m : ℕ). isAccepted (f m) ≡ true) e (or-else-left (f i) (firstRefused f n (suc i)) h))
+    (λ b. first-at f n (suc i) (or-else-right (f i) (firstRefused f n (suc i)) h) k b (omega arith))

@@ -5,17 +5,16 @@ use Prim.Native.Nat.{ℕ, _+_, _-_, _*_, _/_, _%_, _≤_, _<_}
 use mathlib.Core.Path.{_≡_, refl, sym, ap, _∙_}
 use mathlib.Core.Bool.{Bool, true, not}
 use mathlib.Core.List.{List}
-use native.Mathlib.Nat.{div-add-mod, zero-add}
+use native.Mathlib.Nat.{div-add-mod}
 use native.Mathlib.Omega.{arith}
 use borrow.Author.Tests.{eqb-true, eqb-false, ne-eqb, ltb-true, ltb-false, not-true}
 use lib.Dec.{eqb, ltb}
 use lib.ListN.{getD}
-use lib.Seq.{ext-getD}
-use Rattle.sudoku.specs.Tests.{both, either, every, listed}
+use Rattle.sudoku.specs.Tests.{both, either, every}
 use Rattle.sudoku.specs.Grid.{isCell, rowOf, columnOf, boxIndex, isPeerOf, arePeers, at}
-use Rattle.sudoku.proofs.Walks.{by-test, same-test, both-true, both-left, both-right, both-first, both-second, both-assoc, either-left, either-right, either-cases, not-both-ways, not-is-true, not-is-false, every-at, every-of, every-step, every-all}
+use Rattle.sudoku.proofs.Walks.{by-test, same-test, both-true, both-left, both-right, both-first, both-second, both-assoc, either-left, either-right, either-cases, not-both-ways, not-is-true, every-at, every-of, every-step, every-all}
 use Rattle.sudoku.proofs.Grid.{cell-from, cell-to, is-cell}
-use Rattle.sudoku.proofs.Listed.{length-listed, listed-at}
+use Rattle.sudoku.proofs.Listed.{listed-from, listed-agree}
 use Rattle.puzzle.specs.Puzzle.{isConsistent}
 use Rattle.puzzle.specs.Units.{stepClear, columnsClear, reordered, rowOrder, boxOrder}
 use Rattle.puzzle.proofs.Puzzle.{consistent-exactly}
@@ -172,8 +171,7 @@ module _ (digits : List ℕ) where
   order-same : (order : ℕ → ℕ) (i : ℕ) → i < 81 → getD (reordered order digits) i 0 ≡ at digits (order i + 1)
   unfolding at reordered
   order-same order i u =
-      listed-at (λ j. getD digits (order j) 0) 81 0 i 0 u
-      ∙ ap (λ (j : ℕ). getD digits (order j) 0) (zero-add i)
+      listed-from (λ j. getD digits (order j) 0) 81 i 0 u
       ∙ ap (λ (j : ℕ). getD digits j 0) (omega arith)
 
   -- no unit holds a digit twice exactly where no cell conflicts
@@ -206,18 +204,6 @@ module _ (digits : List ℕ) where
 pub reordered-same : (order other : ℕ → ℕ) (digits : List ℕ) → every (λ i. eqb (order i) (other i)) 81 0 ≡ true → reordered order digits ≡ reordered other digits
 unfolding reordered
 reordered-same order other digits t =
-    ext-getD 0 (listed f 81 0) (listed g 81 0) (length-listed f 81 0 ∙ sym (length-listed g 81 0))
-    (λ i u. same i (omega (arith, u, length-listed f 81 0)))
-  where
-    f : ℕ → ℕ
-    f i = getD digits (order i) 0
-
-    g : ℕ → ℕ
-    g i = getD digits (other i) 0
-
-    same : (i : ℕ) → i < 81 → getD (listed f 81 0) i 0 ≡ getD (listed g 81 0) i 0
-    same i u =
-        listed-at f 81 0 i 0 u
-        ∙ ap (λ (j : ℕ). f j) (zero-add i)
-        ∙ ap (λ (j : ℕ). getD digits j 0) (eqb-true (order i) (other i) (every-at (λ j. eqb (order j) (other j)) 81 0 i t (omega arith) (omega arith)))
-        ∙ sym (listed-at g 81 0 i 0 u ∙ ap (λ (j : ℕ). g j) (zero-add i))
+    listed-agree (λ i. getD digits (order i) 0) (λ i. getD digits (other i) 0) 81 0 0
+    (λ k u. ap (λ (j : ℕ). getD digits j 0)
+    (eqb-true (order (0 + k)) (other (0 + k)) (every-at (λ j. eqb (order j) (other j)) 81 0 (0 + k) t (omega arith) (omega arith))))

@@ -2,11 +2,11 @@
 -- Assumes nothing.
 use Prim.Native.Nat.{ℕ, zero, suc, _+_, _-_, _*_, _/_, _≤_}
 use mathlib.Core.Path.{_≡_, refl, sym, ap, _∙_}
-use mathlib.Core.Bool.{Bool, true}
+use mathlib.Core.Bool.{Bool}
 use mathlib.Core.List.{List, [], _∷_}
 use native.Mathlib.Nat.{mul-add, mul-one, zero-add, add-assoc}
 use native.Mathlib.Omega.{arith}
-use lib.ListN.{length, getD, set, drop, List·getD-eq-default}
+use lib.ListN.{length, getD, drop, List·getD-eq-default}
 use lib.Seq.{getD-drop}
 use Rattle.sudoku.specs.Tests.{both, every, run, listed}
 use Rattle.sudoku.specs.Grid.{cellOf, put}

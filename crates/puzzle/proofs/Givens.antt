@@ -8,11 +8,10 @@ use mathlib.Core.List.{List, [], _∷_}
 use native.Mathlib.Omega.{arith}
 use borrow.Author.Tests.{eqb-true, eqb-false, ne-eqb, ltb-true, not-true}
 use lib.Dec.{ltb, eqb}
-use lib.ListN.{length, getD, set, replicate, length-set, getD-replicate}
-use lib.Seq.{getD-set-same, getD-set-other}
+use lib.ListN.{length, getD, replicate, getD-replicate}
 use Rattle.sudoku.specs.Tests.{pick, both, either, bit, every, count}
 use Rattle.sudoku.specs.Grid.{onGrid, cellOf, isCell, at, put}
-use Rattle.sudoku.proofs.Walks.{by-test, not-both-ways, both-left, both-right, either-cases, either-left, either-second, either-false, either-false-left, either-false-right, pick-true, pick-false, every-not, every-at, count-every, count-same, Place}
+use Rattle.sudoku.proofs.Walks.{by-test, not-both-ways, both-left, both-right, either-cases, either-left, either-first, either-second, either-false, either-false-left, either-false-right, pick-true, pick-false, every-not, every-at, count-every, count-same, Place}
 use Rattle.sudoku.proofs.Grid.{cell-from, cell-to, is-cell, at-put-by, length-put, cell-on, cell-of-is-cell, grid-row, grid-column, range-from, range-to}
 use Rattle.sudoku.proofs.Each.{Each}
 use Rattle.puzzle.specs.declared.Given.{Given}
@@ -92,11 +91,6 @@ rising-unmarked c (g ∷ gs) cell r u =
     either-false _ _ (ne-eqb (cellIn g) cell (λ e. omega (arith, r .0)))
     (rising-unmarked (cellIn g) gs cell (r .1) (omega (arith, r .0)))
 
-pub rising-later : (c d : ℕ) (gs : List Given) → c ≤ d → Rising d gs → Rising c gs
-unfolding Rising
-rising-later c d [] u r = tt
-rising-later c d (g ∷ gs) u r = (omega (arith, r .0), r .1)
-
 length-mark : (flags : List ℕ) (gs : List Given) → length (markGivens flags gs) ≡ length flags
 unfolding markGivens
 length-mark flags [] = refl
@@ -128,11 +122,6 @@ marks-at flags (g ∷ gs) cell n ps q =
     ∙ ap (λ (t : Bool). either (marked gs cell) t) (flag-set flags (cellIn g) cell n (cell-of-is-cell _ _ (ps .0)) q)
     ∙ either-swap (marked gs cell) (eqb (cellIn g) cell) (isSet flags cell)
 
-either-none : (t : Bool) → either t false ≡ t
-unfolding either
-either-none true = refl
-either-none false = refl
-
 pub length-given-cells : (gs : List Given) → length (givenCells gs) ≡ 81
 unfolding givenCells
 length-given-cells gs = length-mark (replicate 81 0) gs
@@ -144,7 +133,7 @@ given-at gs cell ps q =
     marks-at (replicate 81 0) gs cell refl ps q
     ∙ ap (λ (t : Bool). either (marked gs cell) t)
     (ap (λ (x : ℕ). not (eqb x 0)) (getD-replicate 81 (cell - 1) 0 0 (omega (arith, cell-from cell q, cell-to cell q))))
-    ∙ either-none (marked gs cell)
+    ∙ either-first (marked gs cell) false refl
 
 -- and no flag is above 1
 marks-small : (flags : List ℕ) (gs : List Given) (cell : ℕ) → length flags ≡ 81 → Each OnGrid gs → isCell cell ≡ true → at flags cell ≤ 1

@@ -8,3 +8,5 @@ pub mod Refusals
 pub mod GivenBytes
 pub mod Rows
 pub mod Columns
+pub mod EachOnce
+pub mod Examples

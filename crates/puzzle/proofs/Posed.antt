@@ -1,26 +1,25 @@
 -- Opening's tests against what they mean: none of 19 and 22 to 27 applies exactly where the givens ascend, are fewer than 81, are on the grid and
 -- match the solution, and the solution has a digit 1 to 9 at each cell and no two peers that are equal.
 -- Assumes nothing.
-use Prim.Native.Nat.{ℕ, zero, suc, _≤_, _<_}
+use Prim.Native.Nat.{ℕ, suc, _≤_, _<_}
 use mathlib.Core.Path.{_≡_, refl, sym, ap, _∙_}
-use mathlib.Core.Bool.{true, false, not}
+use mathlib.Core.Bool.{true, not}
 use mathlib.Core.List.{List, [], _∷_}
-use native.Mathlib.Nat.{le-of-suc-le-suc, not-suc-le-zero}
 use native.Mathlib.Omega.{arith}
 use borrow.Author.Tests.{leb-true, leb-false, le-leb, lt-leb, eqb-true, eqb-false, eq-eqb, ne-eqb, not-false}
 use lib.Dec.{eqb}
 use lib.ListN.{length, getD}
-use Rattle.sudoku.specs.Tests.{both, every}
+use Rattle.sudoku.specs.Tests.{pick, both, either, every}
 use Rattle.sudoku.specs.Grid.{inRange, onGrid, isCell, arePeers, peersOf, at}
-use Rattle.sudoku.proofs.Walks.{by-test, both-left, both-right, every-at, pick-true, pick-false, not-is-false}
-use Rattle.sudoku.proofs.Grid.{cell-from, cell-to, is-cell, in-range, range-from, range-to, peers-length, peers-from, peers-cell, peers-peer, peers-has, PeerAt}
+use Rattle.sudoku.proofs.Walks.{by-test, both-left, both-right, every-at, not-both-ways, not-is-false}
+use Rattle.sudoku.proofs.Grid.{cell-from, cell-to, is-cell, in-range, range-from, range-to, peers-length, peers-from}
 use Rattle.sudoku.proofs.Each.{Each}
 use Rattle.puzzle.specs.declared.Given.{Given}
 use Rattle.puzzle.specs.Refusals.{refusal, accepted, isAccepted, refusedIf, firstRefused}
 use Rattle.puzzle.specs.Givens.{ascending}
-use Rattle.puzzle.specs.Puzzle.{isFull, isConsistent, settled}
+use Rattle.puzzle.specs.Puzzle.{isHeld, isFull, isConsistent, settled}
 use Rattle.puzzle.specs.Vouch.{nothingLeft, solutionDigit, firstHolding, solutionConflict, givenMatches, givensMatch, vouch, wellPosed}
-use Rattle.puzzle.proofs.Puzzle.{full-exactly, consistent-exactly, settled-fresh, bit-true}
+use Rattle.puzzle.proofs.Puzzle.{peers-hold, full-exactly, consistent-exactly, settled-fresh, bit-true}
 use Rattle.puzzle.proofs.Accepted.{accepts, if-not, if-passed, or-else-of, or-else-left, or-else-right, or-else-parts, first-of, first-at}
 use Rattle.puzzle.proofs.Givens.{OnGrid, Matches, Rising, rising}
 
@@ -56,51 +55,33 @@ digits-pass solution t =
 
 -- ---- 25 at a cell
 
--- where the first that holds d is none, none holds it; cells count from 1
-none-holds : (digits : List ℕ) (d : ℕ) (cells : List ℕ) → firstHolding digits d cells ≡ 0 → ((i : ℕ) → i < length cells → 1 ≤ getD cells i 0)
-    → (i : ℕ) → i < length cells → at digits (getD cells i 0) ≡ d → ⊥
-unfolding firstHolding
-none-holds digits d [] h some i u e = not-suc-le-zero u
-none-holds digits d (c ∷ cells) h some zero u e =
-    omega (arith, sym (pick-true _ _ _ (eq-eqb (at digits c) d e)) ∙ h, some 0 (omega arith))
-none-holds digits d (c ∷ cells) h some (suc i) u e =
-    by-test (eqb (at digits c) d) (λ t. omega (arith, sym (pick-true _ _ _ t) ∙ h, some 0 (omega arith)))
-    (λ t. none-holds digits d cells (sym (pick-false _ _ _ t) ∙ h) (λ k v. some (suc k) (omega arith)) i (le-of-suc-le-suc u) e)
-
-holds-none : (digits : List ℕ) (d : ℕ) (cells : List ℕ) → ((i : ℕ) → i < length cells → at digits (getD cells i 0) ≡ d → ⊥)
-    → firstHolding digits d cells ≡ 0
-unfolding firstHolding
-holds-none digits d [] h = refl
-holds-none digits d (c ∷ cells) h =
-    pick-false _ _ _ (ne-eqb (at digits c) d (h 0 (omega arith)))
-    ∙ holds-none digits d cells (λ i u. h (suc i) (omega arith))
+-- there is a first that holds d exactly where one does; cells count from 1
+holding-held : (digits : List ℕ) (d : ℕ) (cells : List ℕ) → ((i : ℕ) → i < length cells → 1 ≤ getD cells i 0)
+    → not (eqb (firstHolding digits d cells) 0) ≡ isHeld digits d cells
+unfolding firstHolding isHeld pick either
+holding-held digits d [] some = refl
+holding-held digits d (c ∷ cells) some =
+    by-test (eqb (at digits c) d) (λ t. rw t (ap not (ne-eqb c 0 (λ e. omega (arith, some 0 (omega arith))))))
+    (λ t. rw t (holding-held digits d cells (λ i u. some (suc i) (omega arith))))
 
 module _ (solution : List ℕ) (cell : ℕ) (p : isCell cell ≡ true) where
+  conflict-test : not (eqb (firstHolding solution (at solution cell) (peersOf cell)) 0) ≡ isHeld solution (at solution cell) (peersOf cell)
+  conflict-test = holding-held solution (at solution cell) (peersOf cell) (λ i u. peers-from cell p i (omega (arith, u, peers-length cell)))
+
   conflict-passed : isAccepted (solutionConflict solution cell) ≡ true
       → (other : ℕ) → isCell other ≡ true → arePeers cell other ≡ true → at solution cell ≡ at solution other → ⊥
   unfolding solutionConflict isAccepted
-  conflict-passed h other q peer e = found (peers-has cell other p q peer)
-    where
-      clear : firstHolding solution (at solution cell) (peersOf cell) ≡ 0
-      clear = eqb-true _ 0 (not-false _ (if-passed _ (refusal 25 cell (firstHolding solution (at solution cell) (peersOf cell))) refl h))
-
-      found : PeerAt cell other → ⊥
-      found w =
-          none-holds solution (at solution cell) (peersOf cell) clear (λ i u. peers-from cell p i (omega (arith, u, peers-length cell))) (w .at)
-          (omega (arith, w .within, peers-length cell))
-          (ap (at solution) (w .is) ∙ sym e)
+  conflict-passed h other q peer e =
+      not-both-ways _ (peers-hold solution (at solution cell) cell p .1 (record { peer = other; is-cell = q; are-peers = peer; holds = sym e }))
+      (sym conflict-test ∙ if-passed _ (refusal 25 cell _) refl h)
 
   conflict-passes : ((other : ℕ) → isCell other ≡ true → arePeers cell other ≡ true → at solution cell ≡ at solution other → ⊥)
       → isAccepted (solutionConflict solution cell) ≡ true
   unfolding solutionConflict isAccepted
-  conflict-passes h = accepts (solutionConflict solution cell) (if-not _ (refusal 25 cell _) (not-is-false _ (eq-eqb _ 0 clear)))
-    where
-      clear : firstHolding solution (at solution cell) (peersOf cell) ≡ 0
-      clear =
-          holds-none solution (at solution cell) (peersOf cell)
-          (λ i u e.
-          let v : i < 20 = omega (arith, u, peers-length cell) in
-          h (getD (peersOf cell) i 0) (peers-cell cell p i v) (peers-peer cell p i v) (sym e))
+  conflict-passes h =
+      by-test (isHeld solution (at solution cell) (peersOf cell))
+      (λ t. let w = peers-hold solution (at solution cell) cell p .0 t in absurd (h (w .peer) (w .is-cell) (w .are-peers) (sym (w .holds))))
+      (λ t. accepts (solutionConflict solution cell) (if-not _ (refusal 25 cell _) (conflict-test ∙ t)))
 
 -- a full grid in which no cell conflicts passes at all 81 cells
 pub settled-passes : (digits : List ℕ) → settled digits 0 ≡ 1 → firstRefused (solutionConflict digits) 81 1 ≡ accepted
@@ -186,14 +167,6 @@ module _ (gs : List Given) (solution : List ℕ) where
       let p : isCell k ≡ true = is-cell k l (omega arith) in
       conflict-passes solution k p (λ other q. v .agree k other p q))))
       (givens-pass solution gs 1 (v .grid) (v .match))))
-
-  pub posed-ascends : wellPosed gs solution ≡ accepted → ascending gs ≡ true
-  unfolding wellPosed isAccepted
-  posed-ascends h = not-false _ (if-passed _ (refusal 19 0 0) refl (or-else-parts _ _ h .0))
-
-  pub posed-vouched : wellPosed gs solution ≡ accepted → Vouched gs solution
-  unfolding wellPosed
-  posed-vouched h = vouched (or-else-parts (refusedIf (not (ascending gs)) (refusal 19 0 0)) _ h .1)
 
   pub posed : ascending gs ≡ true → Vouched gs solution → wellPosed gs solution ≡ accepted
   unfolding wellPosed

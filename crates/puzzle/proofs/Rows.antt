@@ -3,14 +3,14 @@
 use Prim.Native.Nat.{ℕ, suc, _+_, _-_, _*_, _/_, _%_, _≤_, _<_}
 use mathlib.Core.Path.{_≡_, refl, sym, ap, _∙_}
 use mathlib.Core.List.{List, [], _∷_}
-use native.Mathlib.Nat.{div-add-mod, mod-lt, zero-add}
+use native.Mathlib.Nat.{div-add-mod, mod-lt}
 use native.Mathlib.Omega.{arith}
 use lib.Dec.{eqb}
 use lib.ListN.{length, getD}
 use lib.Seq.{ext-getD}
 use Rattle.sudoku.specs.Tests.{pick}
 use Rattle.sudoku.specs.Grid.{cellOf, at, peersOf}
-use Rattle.sudoku.proofs.Listed.{length-listed, listed-at}
+use Rattle.sudoku.proofs.Listed.{length-listed, listed-from}
 use Rattle.sudoku.proofs.Grid.{is-cell, peers-length, peers-to, cell-le}
 use Rattle.puzzle.specs.declared.Given.{Given}
 use Rattle.puzzle.specs.Refusals.{firstRefused, orElse}
@@ -25,17 +25,16 @@ length-flat rows = length-listed (entryAt rows) 81 0
 -- row r, and its entry
 row-of-rows : (s : List ℕ) (r : ℕ) → r < 9 → getD (rowsOf s) r [] ≡ rowAt s r
 unfolding rowsOf
-row-of-rows s r h = listed-at (rowAt s) 9 0 r [] h ∙ ap (rowAt s) (zero-add r)
+row-of-rows s r h = listed-from (rowAt s) 9 r [] h
 
 entry-of-row : (s : List ℕ) (r i : ℕ) → i < 9 → getD (rowAt s r) i 0 ≡ getD s (9 * r + i) 0
 unfolding rowAt
-entry-of-row s r i h = listed-at (λ k. getD s (9 * r + k) 0) 9 0 i 0 h ∙ ap (λ (k : ℕ). getD s (9 * r + k) 0) (zero-add i)
+entry-of-row s r i h = listed-from (λ k. getD s (9 * r + k) 0) 9 i 0 h
 
 pub flat-rows-at : (s : List ℕ) (i : ℕ) → i < 81 → getD (flat (rowsOf s)) i 0 ≡ getD s i 0
 unfolding flat entryAt
 flat-rows-at s i h =
-    listed-at (entryAt (rowsOf s)) 81 0 i 0 h
-    ∙ ap (entryAt (rowsOf s)) (zero-add i)
+    listed-from (entryAt (rowsOf s)) 81 i 0 h
     ∙ ap (λ (row : List ℕ). getD row (i % 9) 0) (row-of-rows s (i / 9) (omega (arith, div-add-mod i 9)))
     ∙ entry-of-row s (i / 9) (i % 9) (mod-lt i {m = 9} (omega arith))
     ∙ ap (λ (k : ℕ). getD s k 0) (div-add-mod i 9)

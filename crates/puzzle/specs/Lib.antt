@@ -4,3 +4,4 @@ pub mod Rows
 pub mod Puzzle
 pub mod Vouch
 pub mod Units
+pub mod EachOnce

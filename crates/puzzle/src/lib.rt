@@ -18,8 +18,8 @@ ghost use Rattle.puzzle.specs.Puzzle.{isHeld, holdsDigit, conflicts as c
 pub mod answer;
 pub mod given_bytes;
 mod orders;
-pub mod vouch;
 mod units;
+pub mod vouch;
 
 // The answer of a call: its number in document 01, 0 where the call is accepted; place and inner are 0 where document 01 says nothing of them.
 #[repr(C)]

@@ -1,4 +1,4 @@
-// Opening's tests (sudoku/proof.rs of the original, `WellPosed::vouch`): numbers 19 and 22 to 27.
+// `WellPosed::vouch` of the original (sudoku/proof.rs), the reference for opening: numbers 22 to 27, and 19 before them.
 use crate::Given;
 use crate::Layout;
 use crate::Refusal;

@@ -8,7 +8,7 @@ use native.Mathlib.Omega.{arith}
 use borrow.Author.Tests.{leb-true, leb-false, eq-eqb, ne-eqb}
 use lib.Dec.{leb, eqb}
 use Rattle.sudoku.specs.Tests.{both, bit, count}
-use Rattle.sudoku.proofs.Walks.{by-test, from-here, both-second, both-false-right, count-some, count-same}
+use Rattle.sudoku.proofs.Walks.{by-test, from-here, both-second, both-false-right, count-some}
 
 -- ---- a test that none, or one, of the numbers passes
 
@@ -44,25 +44,6 @@ count-alone f n i a b h la ua lb ub p q =
     (λ t. by-test (leb b a) (λ s. omega (arith, leb-true a b t, leb-true b a s))
     (λ s. absurd (apart-count f n i a b h la (leb-false b a s) ub p q)))
     (λ t. absurd (apart-count f n i b a h lb (leb-false a b t) ua q p))
-
--- a test that changes its outcome at one of the numbers only, from no to yes, is counted once more
-pub count-one-more : (f g : ℕ → Bool) (n i k : ℕ) → i ≤ k → k < i + n → f k ≡ false → g k ≡ true → ((j : ℕ) → i ≤ j → j < i + n → (k ≡ j → ⊥) → f j ≡ g j)
-    → count g n i ≡ suc (count f n i)
-unfolding count bit
-count-one-more f g zero i k l u p q h = absurd (omega arith)
-count-one-more f g (suc n) i k l u p q h =
-    from-here i k l
-    (λ e. omega (
-      arith,
-      ap bit (subst (λ (m : ℕ). f m ≡ false) (sym e) p),
-      ap bit (subst (λ (m : ℕ). g m ≡ true) (sym e) q),
-      count-same f g n (suc i) (λ j a b. h j (omega arith) (omega arith) (λ w. omega arith)),
-    ))
-    (λ b. omega (
-      arith,
-      ap bit (h i (omega arith) (omega arith) (λ w. omega arith)),
-      count-one-more f g n (suc i) k b (omega arith) p q (λ j a c w. h j (omega arith) (omega arith) w),
-    ))
 
 -- ---- sums
 

@@ -12,31 +12,10 @@ Each P [] = Unit
 Each P (x ∷ l) = P x × Each P l
 
 module _ {A : Type 0} (P : A → Type 0) where
-  pub each-nil : Each P []
-  unfolding Each
-  each-nil = tt
-
-  pub each-cons : (x : A) (l : List A) → P x → Each P l → Each P (x ∷ l)
-  unfolding Each
-  each-cons x l p h = (p, h)
-
-  pub each-head : (x : A) (l : List A) → Each P (x ∷ l) → P x
-  unfolding Each
-  each-head x l h = h .0
-
-  pub each-tail : (x : A) (l : List A) → Each P (x ∷ l) → Each P l
-  unfolding Each
-  each-tail x l h = h .1
-
   pub each-append : (l m : List A) → Each P l → Each P m → Each P (l ++ m)
   unfolding Each
   each-append [] m h g = g
   each-append (x ∷ l) m h g = (h .0, each-append l m (h .1) g)
-
-  pub each-left : (l m : List A) → Each P (l ++ m) → Each P l
-  unfolding Each
-  each-left [] m h = tt
-  each-left (x ∷ l) m h = (h .0, each-left l m (h .1))
 
   pub each-right : (l m : List A) → Each P (l ++ m) → Each P m
   unfolding Each

@@ -6,13 +6,13 @@ use mathlib.Core.Bool.{Bool, true, false, not}
 use mathlib.Core.List.{List}
 use native.Mathlib.Nat.{div-add-mod', mod-lt}
 use native.Mathlib.Omega.{arith}
-use borrow.Author.Tests.{ltb-true, ltb-false, leb-true, leb-false, le-leb, lt-leb, eq-eqb, eqb-true, eqb-false}
-use lib.Dec.{leb, ltb, eqb}
-use lib.ListN.{length, getD, set, replicate, length-set, getD-replicate, List·getD-eq-default}
-use lib.Seq.{getD-set-same, getD-set-other, set-getD, set-set, set-comm, ext-getD}
-use Rattle.sudoku.specs.Tests.{pick, both, either, bit, every, some, count, among}
+use borrow.Author.Tests.{leb-true, leb-false, le-leb, lt-leb, eq-eqb, eqb-true, eqb-false}
+use lib.Dec.{leb, eqb}
+use lib.ListN.{length, getD, set, replicate, length-set}
+use lib.Seq.{getD-set-same, getD-set-other, set-getD, set-set}
+use Rattle.sudoku.specs.Tests.{pick, both, either, bit, every, count, among}
 use Rattle.sudoku.specs.Grid.{inRange, onGrid, cellOf, isCell, rowOf, columnOf, boxIndex, isPeerOf, arePeers, peersOf, at, put}
-use Rattle.sudoku.proofs.Walks.{by-test, both-true, both-left, both-right, both-false-right, pick-true, pick-false, every-at, every-among, some-among, length-among, among-at, among-has, among-ascends, Passes, Entry, same-test, not-both-ways}
+use Rattle.sudoku.proofs.Walks.{by-test, both-true, both-left, both-right, both-false-right, pick-true, pick-false, every-at, length-among, among-at, among-has, among-ascends, Passes, Entry, same-test, not-both-ways}
 
 -- ---- cells
 
@@ -52,10 +52,6 @@ pub put-put : (l : List ℕ) (c x y : ℕ) → put (put l c x) c y ≡ put l c y
 unfolding put
 put-put l c x y = set-set l (c - 1) x y
 
-pub put-comm : (l : List ℕ) (c c′ x y : ℕ) → isCell c ≡ true → isCell c′ ≡ true → (c ≡ c′ → ⊥) → put (put l c x) c′ y ≡ put (put l c′ y) c x
-unfolding put
-put-comm l c c′ x y p p′ h = set-comm l (c - 1) (c′ - 1) x y (λ e. h (omega (arith, e, cell-from c p, cell-from c′ p′)))
-
 pub length-put : (l : List ℕ) (c x : ℕ) → length (put l c x) ≡ length l
 unfolding put
 length-put l c x = length-set l (c - 1) x
@@ -64,13 +60,6 @@ length-put l c x = length-set l (c - 1) x
 pub put-at : (l : List ℕ) (c : ℕ) → put l c (at l c) ≡ l
 unfolding put at
 put-at l c = set-getD l (c - 1) 0
-
--- two lists of 81 entries that agree at each cell are equal
-pub at-ext : (l m : List ℕ) → length l ≡ 81 → length m ≡ 81 → ((c : ℕ) → 1 ≤ c → c ≤ 81 → at l c ≡ at m c) → l ≡ m
-unfolding at
-at-ext l m p q h =
-    ext-getD 0 l m (p ∙ sym q)
-    (λ i u. subst (λ (k : ℕ). getD l k 0 ≡ getD m k 0) (omega arith) (h (i + 1) (omega arith) (omega arith)))
 
 -- what stands at any place after a put, in a list of any length
 pub at-put-within : (l : List ℕ) (c c′ x : ℕ) → 1 ≤ c → c ≤ length l → 1 ≤ c′ → at (put l c x) c′ ≡ pick (eqb c c′) x (at l c′)
@@ -100,14 +89,6 @@ range-to n p = leb-true n 9 (both-right (leb 1 n) (leb n 9) p)
 pub in-range : (n : ℕ) → 1 ≤ n → n ≤ 9 → inRange n ≡ true
 unfolding inRange
 in-range n l u = both-true (leb 1 n) (leb n 9) (le-leb 1 n l) (le-leb n 9 u)
-
-pub range-zero : inRange 0 ≡ false
-unfolding inRange both
-range-zero = refl
-
-pub range-past : (n : ℕ) → 9 < n → inRange n ≡ false
-unfolding inRange
-range-past n u = both-false-right (leb 1 n) (leb n 9) (lt-leb n 9 u)
 
 pub grid-row : (row column : ℕ) → onGrid row column ≡ true → inRange row ≡ true
 unfolding onGrid
@@ -178,19 +159,6 @@ cell-le row column =
     by-test (onGrid row column) (λ p. cell-to (cellOf row column) (cell-of-is-cell row column p))
     (λ p. omega (arith, cell-off row column p))
 
-pub cell-is-on : (row column : ℕ) → isCell (cellOf row column) ≡ onGrid row column
-cell-is-on row column =
-    by-test (onGrid row column) (λ p. cell-of-is-cell row column p ∙ sym p)
-    (λ p. ap isCell (cell-off row column p) ∙ cell-zero ∙ sym p)
-
--- two positions on the grid with one cell are one position
-pub cell-same : (row column row′ column′ : ℕ) → onGrid row column ≡ true → onGrid row′ column′ ≡ true → cellOf row column ≡ cellOf row′ column′
-    → (row ≡ row′) × (column ≡ column′)
-cell-same row column row′ column′ p p′ e = (
-  sym (row-of-cell row column p) ∙ ap rowOf e ∙ row-of-cell row′ column′ p′,
-  sym (column-of-cell row column p) ∙ ap columnOf e ∙ column-of-cell row′ column′ p′,
-)
-
 -- a cell's row and column
 module _ (cell : ℕ) (p : isCell cell ≡ true) where
   pub row-in-range : inRange (rowOf cell) ≡ true
@@ -256,13 +224,6 @@ pub peers-differ : (a b : ℕ) → arePeers a b ≡ true → a ≡ b → ⊥
 peers-differ a b p e =
     not-both-ways (arePeers a a) (subst (λ (k : ℕ). arePeers a k ≡ true) (sym e) p) (peers-not-self a)
 
--- two positions on the grid are peers exactly where their cells are
-pub peers-of-cells : (row column row′ column′ : ℕ) → onGrid row column ≡ true → onGrid row′ column′ ≡ true
-    → arePeers (cellOf row column) (cellOf row′ column′) ≡ isPeerOf row column row′ column′
-unfolding arePeers
-peers-of-cells row column row′ column′ p p′ =
-    λ j. isPeerOf (row-of-cell row column p j) (column-of-cell row column p j) (row-of-cell row′ column′ p′ j) (column-of-cell row′ column′ p′ j)
-
 pub peers-on : (cell : ℕ) → isCell cell ≡ true → peersOf cell ≡ among (arePeers cell) 81 1
 unfolding peersOf
 peers-on cell p = pick-true (isCell cell) (among (arePeers cell) 81 1) (replicate 20 0) p
@@ -315,9 +276,6 @@ module _ (cell : ℕ) (p : isCell cell ≡ true) where
       by-test (leb i j) (λ t. omega (arith, e, peers-ascend i j (omega (arith, leb-true i j t, n)) u))
       (λ t. omega (arith, e, peers-ascend j i (leb-false i j t) h))
 
-  pub peers-other : (i : ℕ) → i < 20 → cell ≡ getD (peersOf cell) i 0 → ⊥
-  peers-other i h e = peers-differ cell (getD (peersOf cell) i 0) (peers-peer i h) e
-
 -- the place of a peer among the twenty
 pub record PeerAt (cell other : ℕ) : Type 0 where
   pub at : ℕ
@@ -336,24 +294,3 @@ peers-has cell other p q h =
           within = omega (arith, w .within, ap length (peers-on cell p), peers-length cell);
           is = ap (λ (l : List ℕ). getD l (w .at) 0) (peers-on cell p) ∙ w .is;
         }
-
--- a test of each peer, or of one, by their place among the twenty and by their number
-pub every-peers : (g : ℕ → Bool) (cell : ℕ) → isCell cell ≡ true
-    → every (λ i. g (getD (peersOf cell) i 0)) 20 0 ≡ every (λ other. either (not (arePeers cell other)) (g other)) 81 1
-every-peers g cell p =
-    ap (λ (l : List ℕ). every (λ i. g (getD l i 0)) 20 0) (peers-on cell p)
-    ∙ every-among (arePeers cell) g 81 1 20 (sym (ap length (peers-on cell p)) ∙ peers-length cell)
-
-pub some-peers : (g : ℕ → Bool) (cell : ℕ) → isCell cell ≡ true
-    → some (λ i. g (getD (peersOf cell) i 0)) 20 0 ≡ some (λ other. both (arePeers cell other) (g other)) 81 1
-some-peers g cell p =
-    ap (λ (l : List ℕ). some (λ i. g (getD l i 0)) 20 0) (peers-on cell p)
-    ∙ some-among (arePeers cell) g 81 1 20 (sym (ap length (peers-on cell p)) ∙ peers-length cell)
-
--- at any index of any cell's peers, also off the grid and past the twenty
-pub peers-le : (cell i : ℕ) → getD (peersOf cell) i 0 ≤ 81
-peers-le cell i =
-    by-test (ltb i 20)
-    (λ t. by-test (isCell cell) (λ p. peers-to cell p i (ltb-true i 20 t))
-    (λ p. omega (arith, ap (λ (l : List ℕ). getD l i 0) (peers-off cell p), getD-replicate {A = ℕ} 20 i 0 0 (ltb-true i 20 t))))
-    (λ t. omega (arith, List·getD-eq-default (peersOf cell) 0 {n = i} (omega (arith, ltb-false i 20 t, peers-length cell))))

@@ -22,6 +22,10 @@ module _ {A : Type 0} (f : ℕ → A) where
   listed-at (suc n) i zero d h = ap f (sym (add-zero i))
   listed-at (suc n) i (suc k) d h = listed-at n (suc i) k d (le-of-suc-le-suc h) ∙ ap f (suc-add i k ∙ sym (add-suc i k))
 
+  -- of a walk from 0 on
+  pub listed-from : (n k : ℕ) (d : A) → k < n → getD (listed f n 0) k d ≡ f k
+  listed-from n k d h = listed-at n 0 k d h ∙ ap f (zero-add k)
+
   -- one more at the end
   pub listed-last : (n i : ℕ) → listed f (suc n) i ≡ listed f n i ++ (f (i + n) ∷ [])
   unfolding listed
@@ -43,10 +47,14 @@ module _ {A : Type 0} (f : ℕ → A) where
   fill-all l n i p u v e =
       sym (take-all i l (omega arith)) ∙ e ∙ ap (λ (k : ℕ). listed f k 0) (omega arith)
 
--- the numbers from one further on
-pub listed-shift : {A : Type 0} (f g : ℕ → A) (n i j : ℕ) → ((k : ℕ) → f (i + k) ≡ g (j + k)) → listed f n i ≡ listed g n j
+-- two walks whose values agree one by one
+pub listed-agree : {A : Type 0} (f g : ℕ → A) (n i j : ℕ) → ((k : ℕ) → k < n → f (i + k) ≡ g (j + k)) → listed f n i ≡ listed g n j
 unfolding listed
-listed-shift f g zero i j h = refl
-listed-shift f g (suc n) i j h =
-    λ t. (ap f (sym (add-zero i)) ∙ h 0 ∙ ap g (add-zero j)) t
-    ∷ listed-shift f g n (suc i) (suc j) (λ k. ap f (suc-add i k ∙ sym (add-suc i k)) ∙ h (suc k) ∙ ap g (add-suc j k ∙ sym (suc-add j k))) t
+listed-agree f g zero i j h = refl
+listed-agree f g (suc n) i j h =
+    λ t. (ap f (sym (add-zero i)) ∙ h 0 (omega arith) ∙ ap g (add-zero j)) t
+    ∷ listed-agree f g n (suc i) (suc j)
+    (λ k u. ap f (suc-add i k ∙ sym (add-suc i k)) ∙ h (suc k) (omega arith) ∙ ap g (add-suc j k ∙ sym (suc-add j k))) t
+
+pub listed-shift : {A : Type 0} (f g : ℕ → A) (n i j : ℕ) → ((k : ℕ) → f (i + k) ≡ g (j + k)) → listed f n i ≡ listed g n j
+listed-shift f g n i j h = listed-agree f g n i j (λ k u. h k)

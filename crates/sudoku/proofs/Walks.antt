@@ -1,4 +1,4 @@
--- The laws of specs/Tests: choices and joined tests, the list of refusals, and the walks `every`, `some`, `count`, `among` and `run`.
+-- The laws of specs/Tests: choices and joined tests, the list of refusals, and the walks `every`, `count`, `among` and `run`.
 -- A loop counts i up to e, which it does not reach: what is left of its walk is `every f (e - i) i`. So a walk of the cells 1 to 81 starts as `every f (82 - 1) 1`, which is `every f 81 1`.
 -- Of each walk: what a turn takes off (`-step`, and `-more` or a name of its own where the test's outcome is known), and that nothing is left at the end (`-all`).
 -- Assumes nothing.
@@ -7,11 +7,11 @@ use mathlib.Core.Path.{_≡_, refl, sym, ap, subst, _∙_}
 use mathlib.Core.Logic.{⊎-elim}
 use mathlib.Core.Bool.{Bool, true, false, not}
 use mathlib.Core.List.{List, [], _∷_}
-use native.Mathlib.Nat.{eq-or-lt-of-le, sub-eq-zero-of-le, suc-add, add-suc, zero-add, add-zero, add-assoc, le-of-suc-le-suc, not-suc-le-zero}
+use native.Mathlib.Nat.{eq-or-lt-of-le, sub-eq-zero-of-le, suc-add, add-suc, zero-add, add-zero, le-of-suc-le-suc, not-suc-le-zero}
 use native.Mathlib.Numerals.{add-one}
 use native.Mathlib.Omega.{arith}
 use lib.ListN.{length, getD}
-use Rattle.sudoku.specs.Tests.{pick, both, either, bit, every, some, count, run, keep, among, Test, _⇒_, first}
+use Rattle.sudoku.specs.Tests.{pick, both, either, bit, every, count, run, keep, among, Test, _⇒_, first}
 
 -- ---- a test's outcome
 
@@ -86,22 +86,10 @@ unfolding both
 both-false-right true b p = p
 both-false-right false b p = refl
 
-pub both-comm : (a b : Bool) → both a b ≡ both b a
-unfolding both
-both-comm true true = refl
-both-comm true false = refl
-both-comm false true = refl
-both-comm false false = refl
-
 pub both-assoc : (a b c : Bool) → both (both a b) c ≡ both a (both b c)
 unfolding both
 both-assoc true b c = refl
 both-assoc false b c = refl
-
-pub not-both : (a b : Bool) → not (both a b) ≡ either (not a) (not b)
-unfolding both either
-not-both true b = refl
-not-both false b = refl
 
 -- ---- either
 
@@ -155,6 +143,11 @@ pub no-if : (t : Bool) (n : ℕ) (ts : List Test) → t ≡ false → first ((t 
 unfolding first pick
 no-if t n ts p = ap (λ (s : Bool). pick s n (first ts)) p
 
+-- no test, no refusal
+pub first-none : first [] ≡ 0
+unfolding first
+first-none = refl
+
 -- a call that is accepted has passed each test
 pub passed : (t : Bool) (k : ℕ) (ts : List Test) → first ((t ⇒ suc k) ∷ ts) ≡ 0 → (t ≡ false) × (first ts ≡ 0)
 unfolding first pick
@@ -182,21 +175,6 @@ module _ (f : ℕ → Bool) (e i : ℕ) where
   pub every-all : e ≤ i → every f (e - i) i ≡ true
   unfolding every
   every-all h = ap (λ (n : ℕ). every f n i) (sub-eq-zero-of-le h)
-
-  pub some-step : i < e → some f (e - i) i ≡ either (f i) (some f (e - (i + 1)) (i + 1))
-  unfolding some
-  some-step h =
-      ap (λ (n : ℕ). some f n i) (left-one e i h) ∙ ap (λ (k : ℕ). either (f i) (some f (e - (i + 1)) k)) (sym (add-one i))
-
-  pub some-more : i < e → f i ≡ false → some f (e - i) i ≡ some f (e - (i + 1)) (i + 1)
-  some-more h p = some-step h ∙ either-second (f i) (some f (e - (i + 1)) (i + 1)) p
-
-  pub some-found : i < e → f i ≡ true → some f (e - i) i ≡ true
-  some-found h p = some-step h ∙ either-left (f i) (some f (e - (i + 1)) (i + 1)) p
-
-  pub some-all : e ≤ i → some f (e - i) i ≡ false
-  unfolding some
-  some-all h = ap (λ (n : ℕ). some f n i) (sub-eq-zero-of-le h)
 
   pub count-step : i < e → count f (e - i) i ≡ bit (f i) + count f (e - (i + 1)) (i + 1)
   unfolding count
@@ -280,89 +258,14 @@ every-not f (suc n) i p =
     later : Place f false n (suc i) → Place f false (suc n) i
     later w = record { at = w .at; from = omega arith; below = omega arith; is = w .is }
 
-pub some-at : (f : ℕ → Bool) (n i : ℕ) → some f n i ≡ true → Place f true n i
-unfolding some
-some-at f zero i p = absurd (not-both-ways false p refl)
-some-at f (suc n) i p =
-    by-test (f i) (λ h. record { at = i; from = omega arith; below = omega arith; is = h })
-    (λ h. later (some-at f n (suc i) (sym (either-second (f i) (some f n (suc i)) h) ∙ p)))
-  where
-    later : Place f true n (suc i) → Place f true (suc n) i
-    later w = record { at = w .at; from = omega arith; below = omega arith; is = w .is }
-
-pub some-of : (f : ℕ → Bool) (n i k : ℕ) → i ≤ k → k < i + n → f k ≡ true → some f n i ≡ true
-unfolding some
-some-of f zero i k l u p = absurd (omega arith)
-some-of f (suc n) i k l u p =
-    from-here i k l (λ e. either-left (f i) (some f n (suc i)) (subst (λ (m : ℕ). f m ≡ true) (sym e) p))
-    (λ b. either-right (f i) (some f n (suc i)) (some-of f n (suc i) k b (omega arith) p))
-
-pub some-none : (f : ℕ → Bool) (n i k : ℕ) → some f n i ≡ false → i ≤ k → k < i + n → f k ≡ false
-unfolding some
-some-none f zero i k p l u = absurd (omega arith)
-some-none f (suc n) i k p l u =
-    from-here i k l (λ e. subst (λ (m : ℕ). f m ≡ false) e (either-false-left (f i) (some f n (suc i)) p))
-    (λ b. some-none f n (suc i) k (either-false-right (f i) (some f n (suc i)) p) b (omega arith))
-
-pub none-of : (f : ℕ → Bool) (n i : ℕ) → ((k : ℕ) → i ≤ k → k < i + n → f k ≡ false) → some f n i ≡ false
-unfolding some
-none-of f zero i h = refl
-none-of f (suc n) i h =
-    either-false (f i) (some f n (suc i)) (h i (omega arith) (omega arith)) (none-of f n (suc i) (λ k l u. h k (omega arith) (omega arith)))
-
--- ---- two tests that agree at each of the numbers
-
-module _ (f g : ℕ → Bool) where
-  pub every-same : (n i : ℕ) → ((k : ℕ) → i ≤ k → k < i + n → f k ≡ g k) → every f n i ≡ every g n i
-  unfolding every
-  every-same zero i h = refl
-  every-same (suc n) i h =
-      λ j. both (h i (omega arith) (omega arith) j) (every-same n (suc i) (λ k l u. h k (omega arith) (omega arith)) j)
-
-  pub some-same : (n i : ℕ) → ((k : ℕ) → i ≤ k → k < i + n → f k ≡ g k) → some f n i ≡ some g n i
-  unfolding some
-  some-same zero i h = refl
-  some-same (suc n) i h =
-      λ j. either (h i (omega arith) (omega arith) j) (some-same n (suc i) (λ k l u. h k (omega arith) (omega arith)) j)
-
-  pub count-same : (n i : ℕ) → ((k : ℕ) → i ≤ k → k < i + n → f k ≡ g k) → count f n i ≡ count g n i
-  unfolding count
-  count-same zero i h = refl
-  count-same (suc n) i h =
-      λ j. bit (h i (omega arith) (omega arith) j) + count-same n (suc i) (λ k l u. h k (omega arith) (omega arith)) j
-
-  pub among-same : (n i : ℕ) → ((k : ℕ) → i ≤ k → k < i + n → f k ≡ g k) → among f n i ≡ among g n i
-  unfolding among
-  among-same zero i h = refl
-  among-same (suc n) i h =
-      λ j. keep (h i (omega arith) (omega arith) j) i (among-same n (suc i) (λ k l u. h k (omega arith) (omega arith)) j)
-
--- ---- the first n, then the m after them
-
-module _ (f : ℕ → Bool) where
-  pub every-join : (n m i : ℕ) → every f (n + m) i ≡ both (every f n i) (every f m (i + n))
-  unfolding every both
-  every-join zero m i = λ j. every f (zero-add m j) (sym (add-zero i) j)
-  every-join (suc n) m i =
-      ap (λ (k : ℕ). every f k i) (suc-add n m)
-      ∙ ap (λ (t : Bool). both (f i) t) (every-join n m (suc i) ∙ ap (λ (k : ℕ). both (every f n (suc i)) (every f m k)) (suc-add i n ∙ sym (add-suc i n)))
-      ∙ sym (both-assoc (f i) (every f n (suc i)) (every f m (i + suc n)))
-
-  pub count-join : (n m i : ℕ) → count f (n + m) i ≡ count f n i + count f m (i + n)
-  unfolding count
-  count-join zero m i = (λ j. count f (zero-add m j) (sym (add-zero i) j)) ∙ sym (zero-add (count f m (i + zero)))
-  count-join (suc n) m i =
-      ap (λ (k : ℕ). count f k i) (suc-add n m)
-      ∙ ap (λ (t : ℕ). bit (f i) + t) (count-join n m (suc i) ∙ ap (λ (k : ℕ). count f n (suc i) + count f m k) (suc-add i n ∙ sym (add-suc i n)))
-      ∙ sym (add-assoc (bit (f i)) (count f n (suc i)) (count f m (i + suc n)))
-
--- not each passes: one does not
-pub not-every : (f : ℕ → Bool) (n i : ℕ) → not (every f n i) ≡ some (λ k. not (f k)) n i
-unfolding every some
-not-every f zero i = refl
-not-every f (suc n) i = not-both (f i) (every f n (suc i)) ∙ ap (λ (t : Bool). either (not (f i)) t) (not-every f n (suc i))
-
 -- ---- counting
+
+-- two tests that agree at each of the numbers
+pub count-same : (f g : ℕ → Bool) (n i : ℕ) → ((k : ℕ) → i ≤ k → k < i + n → f k ≡ g k) → count f n i ≡ count g n i
+unfolding count
+count-same f g zero i h = refl
+count-same f g (suc n) i h =
+    λ j. bit (h i (omega arith) (omega arith) j) + count-same f g n (suc i) (λ k l u. h k (omega arith) (omega arith)) j
 
 pub bit-le : (t : Bool) → bit t ≤ 1
 unfolding bit
@@ -385,20 +288,12 @@ count-some f (suc n) i k l u p =
 pub count-none : (f : ℕ → Bool) (n i k : ℕ) → count f n i ≡ 0 → i ≤ k → k < i + n → f k ≡ false
 count-none f n i k p l u = by-test (f k) (λ h. absurd (omega (arith, count-some f n i k l u h))) (λ h. h)
 
--- all n are counted exactly where each passes
+-- each passes: all n are counted
 pub count-every : (f : ℕ → Bool) (n i : ℕ) → every f n i ≡ true → count f n i ≡ n
 unfolding count every bit
 count-every f zero i p = refl
 count-every f (suc n) i p =
     omega (arith, ap bit (both-left (f i) (every f n (suc i)) p), count-every f n (suc i) (both-right (f i) (every f n (suc i)) p))
-
-pub every-count : (f : ℕ → Bool) (n i : ℕ) → count f n i ≡ n → every f n i ≡ true
-unfolding count every bit
-every-count f zero i p = refl
-every-count f (suc n) i p =
-    by-test (f i)
-    (λ h. both-true (f i) (every f n (suc i)) h (every-count f n (suc i) (omega (arith, p, ap bit h))))
-    (λ h. absurd (omega (arith, p, ap bit h, count-le f n (suc i))))
 
 -- ---- the list of those at which a test holds
 
@@ -478,53 +373,6 @@ among-ascends f (suc n) i j k h u =
     kept-ascends (f i) i (among f n (suc i)) (λ m w. among-at f n (suc i) m w .from)
     (λ m w. among-ascends f n (suc i) m w) j k h u
 
--- the test g at each of those at which f holds, by their place in the list and by their number
-pub every-among : (f g : ℕ → Bool) (n i m : ℕ) → length (among f n i) ≡ m
-    → every (λ j. g (getD (among f n i) j 0)) m 0 ≡ every (λ k. either (not (f k)) (g k)) n i
-every-among f g n i m e =
-    same-test (every at-place m 0) (every at-number n i)
-    (λ p. every-of at-number n i
-    (λ k l u. by-test (f k) (λ h. either-right (not (f k)) (g k) (there p k (among-has f n i k l u h)))
-    (λ h. either-left (not (f k)) (g k) (ap not h))))
-    (λ p. every-of at-place m 0 (λ j l u. here p j (omega arith)))
-  where
-    at-place : ℕ → Bool
-    at-place j = g (getD (among f n i) j 0)
-
-    at-number : ℕ → Bool
-    at-number k = either (not (f k)) (g k)
-
-    there : every at-place m 0 ≡ true → (k : ℕ) → Entry (among f n i) k → g k ≡ true
-    there p k w = ap g (sym (w .is)) ∙ every-at at-place m 0 (w .at) p (omega arith) (omega (arith, w .within, e))
-
-    here : every at-number n i ≡ true → (j : ℕ) → j < m → at-place j ≡ true
-    here p j u =
-        let w : Passes f n i (getD (among f n i) j 0) = among-at f n i j (omega (arith, e)) in
-        sym (either-second (not (f (getD (among f n i) j 0))) (g (getD (among f n i) j 0)) (ap not (w .is)))
-        ∙ every-at at-number n i (getD (among f n i) j 0) p (w .from) (w .below)
-
-pub some-among : (f g : ℕ → Bool) (n i m : ℕ) → length (among f n i) ≡ m
-    → some (λ j. g (getD (among f n i) j 0)) m 0 ≡ some (λ k. both (f k) (g k)) n i
-some-among f g n i m e =
-    same-test (some at-place m 0) (some at-number n i) (λ p. here (some-at at-place m 0 p)) (λ p. there (some-at at-number n i p))
-  where
-    at-place : ℕ → Bool
-    at-place j = g (getD (among f n i) j 0)
-
-    at-number : ℕ → Bool
-    at-number k = both (f k) (g k)
-
-    here : Place at-place true m 0 → some at-number n i ≡ true
-    here q =
-        let w : Passes f n i (getD (among f n i) (q .at) 0) = among-at f n i (q .at) (omega (arith, e, q .below)) in
-        some-of at-number n i (getD (among f n i) (q .at) 0) (w .from) (w .below)
-        (both-true (f (getD (among f n i) (q .at) 0)) (g (getD (among f n i) (q .at) 0)) (w .is) (q .is))
-
-    there : Place at-number true n i → some at-place m 0 ≡ true
-    there q =
-        let w : Entry (among f n i) (q .at) = among-has f n i (q .at) (q .from) (q .below) (both-left (f (q .at)) (g (q .at)) (q .is)) in
-        some-of at-place m 0 (w .at) (omega arith) (omega (arith, e, w .within)) (ap g (w .is) ∙ both-right (f (q .at)) (g (q .at)) (q .is))
-
 -- ---- a run
 
 module _ {A : Type 0} (f : A → ℕ → A) where
@@ -541,18 +389,3 @@ module _ {A : Type 0} (f : A → ℕ → A) where
   pub run-last : (a : A) (n i : ℕ) → run f a (n + 1) i ≡ f (run f a n i) (i + n)
   unfolding run
   run-last a n i = run-join a n 1 i
-
-  -- what each turn keeps is kept
-  pub run-keeps : (P : A → Type 0) (n i : ℕ) → ((a : A) (k : ℕ) → i ≤ k → k < i + n → P a → P (f a k)) → (a : A) → P a → P (run f a n i)
-  unfolding run
-  run-keeps P zero i h a p = p
-  run-keeps P (suc n) i h a p =
-      run-keeps P n (suc i) (λ b k l u q. h b k (omega arith) (omega arith) q) (f a i) (h a i (omega arith) (omega arith) p)
-
--- two runs whose turns agree at each of the numbers
-pub run-same : {A : Type 0} (f g : A → ℕ → A) (n i : ℕ) → ((a : A) (k : ℕ) → i ≤ k → k < i + n → f a k ≡ g a k) → (a : A) → run f a n i ≡ run g a n i
-unfolding run
-run-same f g zero i h a = refl
-run-same f g (suc n) i h a =
-    run-same f g n (suc i) (λ b k l u. h b k (omega arith) (omega arith)) (f a i)
-    ∙ ap (λ b. run g b n (suc i)) (h a i (omega arith) (omega arith))

@@ -27,11 +27,6 @@ unfoldable pub every : (ℕ → Bool) → ℕ → ℕ → Bool
 every f zero i = true
 every f (suc n) i = both (f i) (every f n (suc i))
 
--- f holds at one of the n numbers from i on
-unfoldable pub some : (ℕ → Bool) → ℕ → ℕ → Bool
-some f zero i = false
-some f (suc n) i = either (f i) (some f n (suc i))
-
 -- at how many of the n numbers from i on f holds
 unfoldable pub count : (ℕ → Bool) → ℕ → ℕ → ℕ
 count f zero i = 0

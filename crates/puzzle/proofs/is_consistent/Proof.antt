@@ -1,10 +1,10 @@
 -- `puzzle::is_consistent` meets its contract: one test after the other is all three at once, and those say that no cell conflicts.
 -- Assumes nothing.
-use mathlib.Core.Path.{_≡_, sym, _∙_}
+use mathlib.Core.Path.{sym, _∙_}
 use borrow.Author.Tests.{not-true, not-false}
 use borrow.Author.Needs.{needs}
 use Rattle.sudoku.proofs.Walks.{both-first, both-false-left}
-use Rattle.puzzle.specs.Units.{columnsClear, reordered, rowOrder, boxOrder}
+use Rattle.puzzle.specs.Units.{columnsClear, reordered, rowOrder}
 use Rattle.puzzle.proofs.Columns.{units-clear}
 use Rattle.puzzle.proofs.is_consistent.Statement.{statement}
 use Rattle.puzzle.proofs.is_consistent.Tie as tie

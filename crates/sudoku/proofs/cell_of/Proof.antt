@@ -1,10 +1,8 @@
 -- `sudoku::cell_of` meets its contract: on the grid its definition computes, and it is 81 at most.
 -- Assumes nothing.
-use mathlib.Core.Path.{_≡_, sym, _∙_}
-use mathlib.Core.Bool.{true}
+use mathlib.Core.Path.{sym, _∙_}
 use native.Mathlib.Omega.{arith}
 use borrow.Author.Needs.{needs}
-use Rattle.sudoku.specs.Grid.{onGrid}
 use Rattle.sudoku.proofs.Grid.{cell-on, cell-off, cell-le, grid-bounds}
 use Rattle.sudoku.proofs.cell_of.Statement.{statement}
 use Rattle.sudoku.proofs.cell_of.Tie as tie
@@ -17,8 +15,8 @@ wide-requires c κs = search needs
 
 sub-result : tie.Need-sub-result
 sub-result c =
-    let p : onGrid (c .before .before .before .args .row) (c .before .before .before .args .column) ≡ true = sym (c .before .before .on-grid .ensures) ∙ c .before .if1 .taken in
-    omega (arith, grid-bounds (c .before .before .before .args .row) (c .before .before .before .args .column) p)
+    let a = c .before .before .before .args in
+    omega (arith, grid-bounds (a .row) (a .column) (sym (c .before .before .on-grid .ensures) ∙ c .before .if1 .taken))
 
 mul-result : tie.Need-mul-result
 mul-result c = search needs
@@ -31,8 +29,8 @@ add-result c = search needs
 
 returns : tie.Need-returns
 returns c =
-    let p : onGrid (c .before .before .before .before .args .row) (c .before .before .before .before .args .column) ≡ true = sym (c .before .before .before .on-grid .ensures) ∙ c .before .before .if1 .taken in
-    omega (arith, cell-on (c .before .before .before .before .args .row) (c .before .before .before .before .args .column) p, cell-le (c .before .before .before .before .args .row) (c .before .before .before .before .args .column))
+    let a = c .before .before .before .before .args in
+    omega (arith, cell-on (a .row) (a .column) (sym (c .before .before .before .on-grid .ensures) ∙ c .before .before .if1 .taken), cell-le (a .row) (a .column))
 
 returns-2 : tie.Need-returns-2
 returns-2 c =

@@ -38,10 +38,12 @@ module _ (row column row′ column′ : ℕ) where
             rw (ne-eqb row row′ h, ne-eqb column column′ k, eq-eqb (boxIndex row) (boxIndex row′) b, eq-eqb (boxIndex column) (boxIndex column′) s)
 
 returns : tie.Need-returns
-returns c = sym (in-one-row (c .before .args .row) (c .before .args .column) (c .before .args .row2) (c .before .args .column2) (c .if1 .taken))
+returns c = let a = c .before .args in sym (in-one-row (a .row) (a .column) (a .row2) (a .column2) (c .if1 .taken))
 
 returns-2 : tie.Need-returns-2
-returns-2 c = sym (in-one-column (c .before .before .args .row) (c .before .before .args .column) (c .before .before .args .row2) (c .before .before .args .column2) (c .before .if1 .left) (c .if2 .taken))
+returns-2 c =
+    let a = c .before .before .args in
+    sym (in-one-column (a .row) (a .column) (a .row2) (a .column2) (c .before .if1 .left) (c .if2 .taken))
 
 band-requires : tie.Need-band-requires
 band-requires c κs = search needs
@@ -51,7 +53,8 @@ band-requires-2 c κs = search needs
 
 returns-3 : tie.Need-returns-3
 returns-3 c =
-    sym (in-two-bands (c .before .before .before .before .before .args .row) (c .before .before .before .before .before .args .column) (c .before .before .before .before .before .args .row2) (c .before .before .before .before .before .args .column2) (c .before .before .before .before .if1 .left) (c .before .before .before .if2 .left)
+    let a = c .before .before .before .before .before .args in
+    sym (in-two-bands (a .row) (a .column) (a .row2) (a .column2) (c .before .before .before .before .if1 .left) (c .before .before .before .if2 .left)
     (λ e. c .if3 .taken (c .before .before .band .ensures ∙ e ∙ sym (c .before .band2 .ensures))))
 
 stack-requires : tie.Need-stack-requires
@@ -62,14 +65,18 @@ stack-requires-2 c κs = search needs
 
 returns-4 : tie.Need-returns-4
 returns-4 c =
-    sym (in-two-stacks (c .before .before .before .before .before .before .before .before .args .row) (c .before .before .before .before .before .before .before .before .args .column) (c .before .before .before .before .before .before .before .before .args .row2) (c .before .before .before .before .before .before .before .before .args .column2) (c .before .before .before .before .before .before .before .if1 .left) (c .before .before .before .before .before .before .if2 .left)
-    (sym (c .before .before .before .before .before .band .ensures) ∙ c .before .before .before .if3 .left ∙ c .before .before .before .before .band2 .ensures)
+    let bands = c .before .before .before .before .before in
+    let a = bands .before .before .before .args in
+    sym (in-two-stacks (a .row) (a .column) (a .row2) (a .column2) (bands .before .before .if1 .left) (bands .before .if2 .left)
+    (sym (bands .band .ensures) ∙ c .before .before .before .if3 .left ∙ c .before .before .before .before .band2 .ensures)
     (λ e. c .if4 .taken (c .before .before .stack .ensures ∙ e ∙ sym (c .before .stack2 .ensures))))
 
 returns-5 : tie.Need-returns-5
 returns-5 c =
-    sym (in-one-box (c .before .before .before .before .before .before .before .before .args .row) (c .before .before .before .before .before .before .before .before .args .column) (c .before .before .before .before .before .before .before .before .args .row2) (c .before .before .before .before .before .before .before .before .args .column2) (c .before .before .before .before .before .before .before .if1 .left) (c .before .before .before .before .before .before .if2 .left)
-    (sym (c .before .before .before .before .before .band .ensures) ∙ c .before .before .before .if3 .left ∙ c .before .before .before .before .band2 .ensures)
+    let bands = c .before .before .before .before .before in
+    let a = bands .before .before .before .args in
+    sym (in-one-box (a .row) (a .column) (a .row2) (a .column2) (bands .before .before .if1 .left) (bands .before .if2 .left)
+    (sym (bands .band .ensures) ∙ c .before .before .before .if3 .left ∙ c .before .before .before .before .band2 .ensures)
     (sym (c .before .before .stack .ensures) ∙ c .if4 .left ∙ c .before .stack2 .ensures))
 
 pub is-peer-of-spec : {M : Type 1} → statement M
