@@ -1,9 +1,9 @@
--- `calls::run::one_call` meets its contract.
+-- `pawdoku::list::one_call` meets its contract.
 -- Assumes nothing.
 use Rattle.calls.proofs.Running.{runs-one}
 use borrow.Author.Needs.{needs}
-use Rattle.calls.proofs.run.one_call.Statement.{statement}
-use Rattle.calls.proofs.run.one_call.Tie as tie
+use Rattle.pawdoku.proofs.list.one_call.Statement.{statement}
+use Rattle.pawdoku.proofs.list.one_call.Tie as tie
 
 decode-at-requires : tie.Need-decode-at-requires
 decode-at-requires c κs = search needs

@@ -1,9 +1,9 @@
--- `calls::run::verdict` meets its contract.
+-- `calls::encoded::verdict` meets its contract.
 -- Assumes nothing.
 use mathlib.Core.Path.{sym, ap}
 use Rattle.sudoku.specs.Tests.{bit}
-use Rattle.calls.proofs.run.verdict.Statement.{statement}
-use Rattle.calls.proofs.run.verdict.Tie as tie
+use Rattle.calls.proofs.encoded.verdict.Statement.{statement}
+use Rattle.calls.proofs.encoded.verdict.Tie as tie
 
 returns : tie.Need-returns
 unfolding bit

@@ -1,15 +1,15 @@
--- `calls::run::play` meets its contract: what is left of the run is run from what the last call left.
+-- `pawdoku::list::pawdoku_play` meets its contract: what is left of the run is run from what the last call left.
 -- Assumes nothing.
 use Prim.Native.Nat.{_≤_, _-_}
 use mathlib.Core.Path.{_≡_, refl, sym, _∙_}
 use native.Mathlib.Nat.{sub-zero}
 use native.Mathlib.Omega.{arith}
 use lib.ListN.{length}
 use Rattle.calls.specs.Encoded.{session, runFrom, runOf}
 use Rattle.calls.proofs.Running.{run-more, run-all}
 use borrow.Author.Needs.{needs}
-use Rattle.calls.proofs.run.play.Statement.{statement}
-use Rattle.calls.proofs.run.play.Tie as tie
+use Rattle.pawdoku.proofs.list.pawdoku_play.Statement.{statement}
+use Rattle.pawdoku.proofs.list.pawdoku_play.Tie as tie
 
 abbrev Inv-loop : tie.InvT-loop
 Inv-loop journal₀ checks₀ calls answers₀ end left₀ i₀ journal checks answers left i =
@@ -37,6 +37,9 @@ loop-less c = search needs
 loop-again : tie.Need-loop-again Inv-loop μ-loop
 loop-again c = (search needs, search needs, search needs, omega arith, c .before .before .before .before .before .before .before .before .before .before .before .loop .inv .4 ∙ run-more _ _ _ _ _ _ (c .before .before .before .before .before .before .one-call .ensures) (c .before .before .before .before .before .before .before .before .before .before .loop-test .taken) (omega (arith, c .before .before .before .before .before .before .before .before .before .before .before .loop .inv .2, c .before .before .before .before .before .before .before .before .before .before .before .before .groups .ensures .2)))
 
+accepted-requires : tie.Need-accepted-requires Inv-loop μ-loop
+accepted-requires c κs = search needs
+
 same-length : tie.Need-same-length Inv-loop μ-loop
 same-length c = search needs
 
@@ -48,10 +51,10 @@ same-length-3 c = search needs
 
 returns : tie.Need-returns Inv-loop μ-loop
 unfolding runOf
-returns c = sym (run-all _ _ _ _ _ (omega arith)) ∙ sym (c .before .loop .inv .4) ∙ rw (c .before .before .groups .ensures .0)
+returns c = (c .accepted .ensures, sym (run-all _ _ _ _ _ (omega arith)) ∙ sym (c .before .before .loop .inv .4) ∙ rw (c .before .before .before .groups .ensures .0))
 
-pub play-spec : {M : Type 1} → statement M
-play-spec =
+pub pawdoku-play-spec : {M : Type 1} → statement M
+pawdoku-play-spec =
     tie.close
     (tie.spec
     Inv-loop
@@ -62,6 +65,7 @@ play-spec =
     add-i
     loop-less
     loop-again
+    accepted-requires
     same-length
     same-length-2
     same-length-3

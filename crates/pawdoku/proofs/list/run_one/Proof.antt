@@ -1,9 +1,9 @@
--- `calls::run::run_one` meets its contract.
+-- `pawdoku::list::run_one` meets its contract.
 -- Assumes nothing.
 use Rattle.calls.specs.Encoded.{runOne}
 use borrow.Author.Needs.{needs}
-use Rattle.calls.proofs.run.run_one.Statement.{statement}
-use Rattle.calls.proofs.run.run_one.Tie as tie
+use Rattle.pawdoku.proofs.list.run_one.Statement.{statement}
+use Rattle.pawdoku.proofs.list.run_one.Tie as tie
 
 enum-known-d : tie.Need-enum-known-d
 enum-known-d c = search needs
