@@ -1,15 +1,16 @@
-/* Hostile use of every exported function: boards that no call ever returned, wrong lengths, damaged journals and records, any
- * byte for a row, a column, a digit, any number for k. What must hold whatever is passed:
+/* Hostile use of every exported function: boards that no call ever returned, wrong lengths, damaged journals and
+ * records, any byte for a row, a column, a digit, any number for k. What must hold whatever is passed:
  *
  *     no byte outside a lent slice is touched (lent.h), and none inside that the call has no business with;
  *     the number is one that include/pawdoku.h lists for the call, and the lowest of 1 to 4 that applies;
  *     a refused call leaves the board and the lent memory as they were (opening and reopening: zero, unless by 1);
  *     a board that comes back accepted is a board;
- *     a list of calls is answered as its calls are, one after the other; a sitting that is saved reopens as it was.
+ *     a list of calls is answered as its calls are, one after the other, also on what is no board;
+ *     a sitting that is saved reopens as it was.
  *
  *     fuzz CALLS [SEED]
  *
- * The same seed makes the same calls. Writes how many calls were made of each kind and how often each number was given. */
+ * The same seed makes the same calls. Writes how many calls were made of each and how often each number was given. */
 #define _DEFAULT_SOURCE 1
 #include "records.h"
 

@@ -1,7 +1,8 @@
 -- Lists of play calls as bytes, and their run.
 -- A call is four bytes: which call it is, row, column, digit. Bytes that a call does not use are ignored.
 -- Any other first byte encodes no call: it is answered by number 255 and changes nothing.
--- An answer is four bytes: the number, the place (two bytes, low first), the verdict (1 for right, else 0). No play call has an inner number.
+-- An answer is four bytes: the number, the place (two bytes, low first), the verdict (1 for right, else 0).
+-- No play call has an inner number.
 -- As many calls are run as there are whole groups of four both in the calls' bytes and in the answers' bytes;
 -- a last incomplete group is ignored, and answer bytes beyond the last answer stay as they were.
 -- Assumes nothing.

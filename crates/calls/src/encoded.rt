@@ -1,4 +1,4 @@
-// Calls read from bytes, and their answers written as bytes. specs/Encoded has the encoding; the calls are run by crate pawdoku.
+// Calls read from bytes, and their answers written as bytes. specs/Encoded has the encoding; crate pawdoku runs them.
 use crate::CALL_BYTES;
 use crate::CALL_CHECK;
 use crate::CALL_ERASE;

@@ -1,4 +1,5 @@
--- A move that is shown: what is answered where it is refused and where its slot is copied, and that the slot has its eight bytes.
+-- A move that is shown: what is answered where it is refused and where its slot is copied, and that the slot has its
+-- eight bytes.
 -- Assumes nothing.
 use Prim.Native.Nat.{ℕ, _+_, _-_, _*_, _≤_, _<_}
 use mathlib.Core.Path.{_≡_, sym, ap, _∙_}

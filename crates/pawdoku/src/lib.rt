@@ -1,5 +1,5 @@
 // The library for hosts in C, Rust and whatever links like C: every call of the board, exported under the names of
-// include/pawdoku.h. A board goes in and comes back by value, its flags as bytes; lent memory is a pointer and a length.
+// include/pawdoku.h. A board goes in and comes back by value; lent memory is a pointer and a length.
 use puzzle::Refusal;
 use sudoku::LINE;
 use sudoku::PEERS_PER_CELL;

@@ -75,9 +75,9 @@ fn one_call(
 {
     let answer = run_one(board, journal, checks, decode_at(calls, i));
     let refusal = answer.refusal;
-    let next = answer.board;
+    let after = answer.board;
     write_answer(answers, i, refusal, answer.right);
-    next
+    after
 }
 
 // Runs an encoded list of calls, and writes each call's answer. The list itself is never refused.

@@ -1,5 +1,5 @@
 // What the journal shows: the latest standing move, the next to redo, and the reading of move k.
-// A part of the journal cannot be returned over the C boundary, so the slot's bytes are copied and its offset is answered.
+// A part of the journal cannot be returned over the C boundary: the slot's bytes are copied and its offset is answered.
 use crate::Shown;
 use board::Board;
 use journal::SLOT_BYTES;

@@ -1,5 +1,5 @@
-//! The stack that reopening 1,024 moves needs that are all undone, in threads of ever smaller stacks. How many bytes each
-//! call takes is measured by tests/c/stack.c.
+//! The stack that reopening 1,024 moves needs that are all undone, in threads of ever smaller stacks. How many bytes
+//! each call takes is measured by tests/c/stack.c.
 
 use crate::pair::Ours;
 use crate::puzzle::Puzzle;

@@ -16,7 +16,7 @@ pub use session::Session;
 pub use sys::{Board, Refusal};
 
 /// The version of the library's boundary that this wrapper is written for: of the names, layouts and numbers of
-/// include/pawdoku.h. [`sys::version`] is that of the library that is linked; a library of another version does not link.
+/// include/pawdoku.h. [`sys::version`] is that of the linked library; a library of another version does not link.
 pub const VERSION: u32 = 1;
 /// Cells of the grid.
 pub const CELLS: usize = 81;

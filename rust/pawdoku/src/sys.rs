@@ -621,8 +621,8 @@ pub fn digits_left(board: &Board, digit: u8) -> Left {
 }
 
 /// Runs a list of calls, four bytes each: one of [`crate::call`], row, column, digit. Writes four bytes for each into
-/// the answers: number, place (two bytes, low first), verdict. As many are run as there are whole groups of four in both.
-/// The list itself is never refused: each of its calls is answered as it is by itself.
+/// the answers: number, place (two bytes, low first), verdict. As many are run as there are whole groups of four in
+/// both. The list itself is never refused: each of its calls is answered as it is by itself.
 #[must_use]
 #[inline]
 pub fn play(board: &Board, journal: &mut [u8], checks: &mut [u8], calls: &[u8], answers: &mut [u8]) -> Answer {
