@@ -30,6 +30,33 @@ extern "C" {
 #define PAWDOKU_ASSERT(test, text) _Static_assert(test, text)
 #endif
 
+/* The version of this boundary: of the names, layouts and numbers below. It is raised with each change of them that a
+ * program compiled before would not meet, and stands here once.
+ *
+ * pawdoku_version() is the version of the library that is linked. It need not be asked: the library defines one
+ * function with its version in the name, pawdoku_abi_1, and this header refers to the one of its own version, below.
+ * So an object compiled for another version is refused by the linker, which names the function that is missing. That
+ * costs the address of a function in each object, and no instruction. */
+#define PAWDOKU_VERSION 1
+
+#define PAWDOKU_JOIN_(a, b) a##b
+#define PAWDOKU_JOIN(a, b) PAWDOKU_JOIN_(a, b)
+#define PAWDOKU_ABI PAWDOKU_JOIN(pawdoku_abi_, PAWDOKU_VERSION)
+
+/* A variable that is kept where nothing uses it: by the compiler, and by a linker that drops unused sections. */
+#if defined(__has_attribute)
+#if __has_attribute(retain)
+#define PAWDOKU_KEPT __attribute__((used, retain))
+#endif
+#endif
+#ifndef PAWDOKU_KEPT
+#define PAWDOKU_KEPT __attribute__((used))
+#endif
+
+uint32_t pawdoku_version(void);
+uint32_t PAWDOKU_ABI(void);
+static uint32_t (*const pawdoku_abi)(void) PAWDOKU_KEPT = PAWDOKU_ABI;
+
 /* What is lent, in bytes. */
 enum {
     PAWDOKU_CELLS = 81,
@@ -45,22 +72,40 @@ enum {
     PAWDOKU_CALL_BYTES = 4                 /* one call, and one answer, of pawdoku_play */
 };
 
-/* The kind of a move, in a slot, in a reading, in a record and for pawdoku_play. */
+/* The kind of a move: the first byte of a slot and of a move in a record, and in a reading. */
 enum {
     PAWDOKU_PLACE = 2,
     PAWDOKU_ERASE = 3,
     PAWDOKU_WRITE_MARK = 4,
-    PAWDOKU_STRIKE_MARK = 5,
-    PAWDOKU_UNDO = 6,                      /* pawdoku_play only; in a record 6 is the count of undone moves */
-    PAWDOKU_CHECK = 7,
-    PAWDOKU_REDO = 8                       /* pawdoku_play only */
+    PAWDOKU_STRIKE_MARK = 5
+};
+
+/* The first byte of the other items of a record. */
+enum {
+    PAWDOKU_RECORD_GIVEN = 1,
+    PAWDOKU_RECORD_UNDONE = 6,             /* how many moves are undone */
+    PAWDOKU_RECORD_CHECK = 7
+};
+
+/* The first byte of an encoded call of pawdoku_play: which call it is. */
+enum {
+    PAWDOKU_CALL_PLACE = 2,
+    PAWDOKU_CALL_ERASE = 3,
+    PAWDOKU_CALL_WRITE_MARK = 4,
+    PAWDOKU_CALL_STRIKE_MARK = 5,
+    PAWDOKU_CALL_UNDO = 6,
+    PAWDOKU_CALL_CHECK = 7,
+    PAWDOKU_CALL_REDO = 8
 };
 
 /* Why a call is refused. `place` and `inner` are 0 where nothing is said of them. */
 enum {
     PAWDOKU_ACCEPTED = 0,
-    PAWDOKU_WRONG_LENGTH = 1,              /* lent journal, check memory or solution has another length than above, or the givens' length is no multiple of three */
-    PAWDOKU_NOT_A_BOARD = 2,               /* made above 1,024, standing above made, checks above 256, a digit above 9, a given without a digit, a note bit other than 1 to 9, a solution digit outside 1 to 9, a flag other than 0 and 1 */
+    PAWDOKU_WRONG_LENGTH = 1,              /* lent journal, check memory or solution has another length than above, or
+                                            * the givens' length is no multiple of three */
+    PAWDOKU_NOT_A_BOARD = 2,               /* made above 1,024, standing above made, checks above 256, a digit above 9,
+                                            * a given without a digit, a note bit other than 1 to 9, a solution digit
+                                            * outside 1 to 9, a flag other than 0 and 1 */
     PAWDOKU_NO_SUCH_CELL = 3,
     PAWDOKU_SOLVED = 4,
     PAWDOKU_GIVEN_CELL = 5,
@@ -72,7 +117,8 @@ enum {
     PAWDOKU_MARK_NOT_THERE = 11,
     PAWDOKU_NOTHING_TO_UNDO = 12,
     PAWDOKU_NOTHING_TO_REDO = 13,
-    PAWDOKU_UNSOUND_MEMORY = 14,           /* place: the slot, or with inner 1 the stored check, that no call left there; or what it changed stands otherwise */
+    PAWDOKU_UNSOUND_MEMORY = 14,           /* place: the slot, or with inner 1 the stored check, that no call left
+                                            * there; or what it changed stands otherwise */
     PAWDOKU_TOO_MANY_MOVES = 15,
     PAWDOKU_TOO_MANY_CHECKS = 16,
     PAWDOKU_RECORD_MALFORMED = 17,         /* place: the first item that cannot stand there or is cut short */
@@ -107,7 +153,7 @@ typedef struct {
 typedef struct {
     uint8_t digits[PAWDOKU_CELLS];         /* cell n stands at n - 1 */
     uint8_t given[PAWDOKU_CELLS];
-    uint16_t notes[PAWDOKU_CELLS];         /* mark d is the bit of value 1 << d; a note under a digit is kept and not shown */
+    uint16_t notes[PAWDOKU_CELLS];         /* mark d is the bit of value 1 << d; under a digit it is kept, not shown */
     uint8_t solution[PAWDOKU_CELLS];
     uint8_t solved;
     size_t made;                           /* moves in the journal */
@@ -236,8 +282,7 @@ pawdoku_written pawdoku_write(pawdoku_board board, const uint8_t *journal, size_
                               const uint8_t *checks, size_t checks_length,
                               uint8_t *output, size_t output_length);
 
-/* Reopens a record with the puzzle's solution. Refused by 1, 17 to 33.
- * Taking back undone moves uses stack: docs/PERFORMANCE.md says how much at most. */
+/* Reopens a record with the puzzle's solution. Refused by 1, 17 to 33. */
 pawdoku_answer pawdoku_reopen(const uint8_t *record, size_t record_length,
                               const uint8_t *solution, size_t solution_length,
                               uint8_t *journal, size_t journal_length,
@@ -258,9 +303,12 @@ pawdoku_yes_no pawdoku_can_undo(pawdoku_board board);
 pawdoku_yes_no pawdoku_can_redo(pawdoku_board board);
 pawdoku_left pawdoku_digits_left(pawdoku_board board, uint8_t digit);
 
-/* Runs a list of calls, four bytes each: kind, row, column, digit (0 where a call has none). Writes four bytes for
- * each into the answers: number, place (two bytes, low first), verdict. As many calls are run as there are whole
- * groups of four in both. Refused by 2 where a flag of the board is neither 0 nor 1; nothing is run then. */
+/* Runs a list of calls, four bytes each: PAWDOKU_CALL_.., row, column, digit (0 where a call has none). Writes four
+ * bytes for each into the answers: number, place (two bytes, low first), verdict. As many calls are run as there are
+ * whole groups of four in both. A list is a chain of the functions above: each call is made on the board and memory
+ * that the last one left, and answered as it is by itself, by 1 where the memory that it needs has another length and
+ * by 2 where the board is none. Bytes that encode no call are answered by PAWDOKU_NO_CALL and change nothing. The list
+ * itself is never refused. */
 pawdoku_answer pawdoku_play(pawdoku_board board, uint8_t *journal, size_t journal_length,
                             uint8_t *checks, size_t checks_length,
                             const uint8_t *calls, size_t calls_length,
@@ -272,7 +320,7 @@ size_t pawdoku_note_len(uint16_t note);
 uint8_t pawdoku_note_is_empty(uint16_t note);
 pawdoku_digits pawdoku_note_digits(uint16_t note);
 
-/* The grid. A position off the grid has cell 0. Band, stack and is_peer_of answer for every byte, on the grid or not. */
+/* The grid. A position off the grid has cell 0; band, stack and is_peer_of answer for every byte. */
 size_t pawdoku_cell_of(uint8_t row, uint8_t column);
 uint8_t pawdoku_band(uint8_t row);
 uint8_t pawdoku_stack(uint8_t column);

@@ -11,7 +11,7 @@
 enum call {
     OPEN, REOPEN, PLACE, ERASE, WRITE_MARK, STRIKE_MARK, UNDO, REDO, CHECK, LATEST, NEXT, WRITE, READING, CELL, CONFLICTS, ACCEPTS_MARKS,
     HOLDS_PLAYERS_DIGIT, IS_SOLVED, IS_FULL, IS_CONSISTENT, CAN_UNDO, CAN_REDO, DIGITS_LEFT, PLAY, NOTE_CONTAINS, NOTE_LEN, NOTE_IS_EMPTY,
-    NOTE_DIGITS, CELL_OF, BAND, STACK, IS_PEER_OF, PEERS, CALLS
+    NOTE_DIGITS, CELL_OF, BAND, STACK, IS_PEER_OF, PEERS, VERSION, CALLS
 };
 
 #define N(n) ((uint64_t)1 << (n))
@@ -45,7 +45,7 @@ static const struct {
     [CAN_UNDO] = {"can_undo", N(2)},
     [CAN_REDO] = {"can_redo", N(2)},
     [DIGITS_LEFT] = {"digits_left", N(2) | N(8)},
-    [PLAY] = {"play", N(2)},
+    [PLAY] = {"play", 0},
     [NOTE_CONTAINS] = {"note_contains", 0},
     [NOTE_LEN] = {"note_len", 0},
     [NOTE_IS_EMPTY] = {"note_is_empty", 0},
@@ -55,6 +55,7 @@ static const struct {
     [STACK] = {"stack", 0},
     [IS_PEER_OF] = {"is_peer_of", 0},
     [PEERS] = {"peers", 0},
+    [VERSION] = {"version", 0},
 };
 
 static uint64_t seed;

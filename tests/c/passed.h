@@ -21,14 +21,6 @@ static int is_board(const pawdoku_board *b)
     return 1;
 }
 
-static int has_flags(const pawdoku_board *b)
-{
-    for (int i = 0; i < PAWDOKU_CELLS; i++)
-        if (b->given[i] > 1)
-            return 0;
-    return b->solved <= 1;
-}
-
 /* Byte for byte, but for those between the fields, which C does not keep. */
 static int same_board(const pawdoku_board *a, const pawdoku_board *b)
 {
@@ -91,7 +83,8 @@ static void repeat(struct sitting *s, const uint8_t calls[8], size_t times)
     static uint8_t list[8 * PAWDOKU_MAX_MOVES], answers[8 * PAWDOKU_MAX_MOVES];
     for (size_t i = 0; i < times; i++)
         memcpy(list + 4 * i, calls + 4 * (i % 2), 4);
-    pawdoku_answer a = pawdoku_play(s->board, s->journal, sizeof s->journal, s->checks, sizeof s->checks, list, 4 * times, answers, 4 * times);
+    pawdoku_answer a = pawdoku_play(s->board, s->journal, sizeof s->journal, s->checks, sizeof s->checks, list,
+                                    4 * times, answers, 4 * times);
     count(PLAY, a.refusal);
     s->board = a.board;
 }
@@ -104,12 +97,14 @@ static void restart(size_t i)
     set_puzzle(s, givens[i]);
     must(open_sitting(s), OPEN, "a puzzle that opens is refused");
     if (i == 5)
-        repeat(s, (const uint8_t[8]){PAWDOKU_WRITE_MARK, 1, 1, 1, PAWDOKU_STRIKE_MARK, 1, 1, 1}, PAWDOKU_MAX_MOVES - below(2));
+        repeat(s, (const uint8_t[8]){PAWDOKU_CALL_WRITE_MARK, 1, 1, 1, PAWDOKU_CALL_STRIKE_MARK, 1, 1, 1},
+               PAWDOKU_MAX_MOVES - below(2));
     if (i == 6) {
         for (uint8_t n = 1; n <= 9; n++)
-            repeat(s, (const uint8_t[8]){PAWDOKU_PLACE, n, n, n, PAWDOKU_PLACE, n, n, n}, 1);
+            repeat(s, (const uint8_t[8]){PAWDOKU_CALL_PLACE, n, n, n, PAWDOKU_CALL_PLACE, n, n, n}, 1);
         uint8_t at = (uint8_t)(1 + below(9));
-        repeat(s, (const uint8_t[8]){PAWDOKU_CHECK, at, at, 0, PAWDOKU_CHECK, at, at, 0}, PAWDOKU_MAX_CHECKS - below(2));
+        repeat(s, (const uint8_t[8]){PAWDOKU_CALL_CHECK, at, at, 0, PAWDOKU_CALL_CHECK, at, at, 0},
+               PAWDOKU_MAX_CHECKS - below(2));
     }
 }
 

@@ -45,7 +45,7 @@ static size_t put_givens(uint8_t *record, const struct sitting *s)
 {
     size_t n = 0;
     for (size_t i = 0; i < s->givens_length; i += 3) {
-        record[n++] = 1;
+        record[n++] = PAWDOKU_RECORD_GIVEN;
         n = put(record, n, s->givens + i, 3);
     }
     return n;
@@ -58,12 +58,13 @@ static size_t put_move(uint8_t *record, size_t n, uint8_t kind, struct aim at)
 
 static size_t put_undone(uint8_t *record, size_t n, size_t undone)
 {
-    return put(record, n, (const uint8_t[3]){6, (uint8_t)undone, (uint8_t)(undone >> 8)}, 3);
+    return put(record, n, (const uint8_t[3]){PAWDOKU_RECORD_UNDONE, (uint8_t)undone, (uint8_t)(undone >> 8)}, 3);
 }
 
 static size_t put_check(uint8_t *record, size_t n, size_t standing, struct aim at)
 {
-    return put(record, n, (const uint8_t[6]){7, (uint8_t)standing, (uint8_t)(standing >> 8), at.row, at.column, at.digit}, 6);
+    const uint8_t low = (uint8_t)standing, high = (uint8_t)(standing >> 8);
+    return put(record, n, (const uint8_t[6]){PAWDOKU_RECORD_CHECK, low, high, at.row, at.column, at.digit}, 6);
 }
 
 /* More moves than a journal holds, or as many, or one less: a mark written and struck in turn. */

@@ -14,7 +14,7 @@ use Rattle.calls.specs.declared.Call.the-variants.{Make, Undo, Redo, Che
 use Rattle.calls.specs.declared.Decoded.{Decoded}
 use Rattle.calls.specs.declared.Decoded.the-variants.{Of}
 use Rattle.calls.specs.Session.{Session, callOf, after, answers}
-use Rattle.calls.specs.Encoded.{callBytes, decode, decodeAt, decoded, encode, encoded, groups, runOne, leftBy, saidTo, answersBytes, ran, runFrom, runOf}
+use Rattle.calls.specs.Encoded.{callBytes, callPlace, callErase, callWriteMark, callStrikeMark, callUndo, callCheck, callRedo, decode, decodeOther, decodeAt, decoded, encode, encoded, groups, runOne, leftBy, saidTo, answersBytes, ran, runFrom, runOf}
 
 -- ---- groups that are all calls
 
@@ -77,7 +77,7 @@ encode-length (Check row column ∷ cs) = omega (arith, encode-length cs)
 
 -- the first group is its call, and the others follow
 first-call : (c : Call) (l : List ℕ) → decodeAt (encode c ++ l) 0 ≡ Of c
-unfolding decodeAt decode encode pick
+unfolding decodeAt decode decodeOther encode pick
 first-call (Make (Place row column digit)) l = refl
 first-call (Make (Erase row column)) l = refl
 first-call (Make (WriteMark row column digit)) l = refl
@@ -88,13 +88,13 @@ first-call (Check row column) l = refl
 
 other-calls : (c : Call) (l : List ℕ) (n : ℕ) → listed (decodeAt (encode c ++ l)) n 1 ≡ listed (decodeAt l) n 0
 unfolding encode
-other-calls (Make (Place row column digit)) l n = listed-later 2 row column digit l n 0
-other-calls (Make (Erase row column)) l n = listed-later 3 row column 0 l n 0
-other-calls (Make (WriteMark row column digit)) l n = listed-later 4 row column digit l n 0
-other-calls (Make (StrikeMark row column digit)) l n = listed-later 5 row column digit l n 0
-other-calls Undo l n = listed-later 6 0 0 0 l n 0
-other-calls Redo l n = listed-later 8 0 0 0 l n 0
-other-calls (Check row column) l n = listed-later 7 row column 0 l n 0
+other-calls (Make (Place row column digit)) l n = listed-later callPlace row column digit l n 0
+other-calls (Make (Erase row column)) l n = listed-later callErase row column 0 l n 0
+other-calls (Make (WriteMark row column digit)) l n = listed-later callWriteMark row column digit l n 0
+other-calls (Make (StrikeMark row column digit)) l n = listed-later callStrikeMark row column digit l n 0
+other-calls Undo l n = listed-later callUndo 0 0 0 l n 0
+other-calls Redo l n = listed-later callRedo 0 0 0 l n 0
+other-calls (Check row column) l n = listed-later callCheck row column 0 l n 0
 
 all-calls : (cs : List Call) → listed (decodeAt (encoded cs)) (length cs) 0 ≡ map Of cs
 unfolding listed encoded

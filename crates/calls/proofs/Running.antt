@@ -1,4 +1,4 @@
--- The laws of a run: what each kind of call leaves, bytes that encode no call, one group more, and none left.
+-- The laws of a run: what each kind of call leaves, one group more, and none left.
 -- Assumes nothing.
 use Prim.Native.Nat.{ℕ, zero, suc, _+_, _-_, _*_, _≤_, _<_}
 use mathlib.Core.Path.{_≡_, refl, sym, ap, _∙_}
@@ -7,9 +7,8 @@ use mathlib.Core.List.{List, _++_}
 use native.Mathlib.Nat.{sub-eq-zero-of-le}
 use native.Mathlib.Numerals.{add-one}
 use native.Mathlib.Omega.{arith}
-use borrow.Author.Tests.{ne-eqb}
 use lib.ListN.{length}
-use Rattle.sudoku.specs.Tests.{pick, listed}
+use Rattle.sudoku.specs.Tests.{listed}
 use Rattle.sudoku.proofs.Walks.{left-one}
 use Rattle.journal.specs.declared.Move.{Move}
 use Rattle.journal.specs.Bytes.{over}
@@ -21,9 +20,8 @@ use Rattle.play.specs.Play.{playOf, undoOf, redoOf}
 use Rattle.play.specs.Check.{checkOf}
 use Rattle.calls.specs.declared.Call.the-variants.{Make, Undo, Redo, Check}
 use Rattle.calls.specs.declared.Decoded.{Decoded}
-use Rattle.calls.specs.declared.Decoded.the-variants.{Nothing}
 use Rattle.calls.specs.Session.{Session, Said, Called, called, callOf}
-use Rattle.calls.specs.Encoded.{callBytes, session, said, judged, leaves, decode, decodeAt, runOne, leftBy, saidTo, answerBytes, answersBytes, Ran, ran, runAt, runFrom}
+use Rattle.calls.specs.Encoded.{callBytes, session, said, judged, leaves, decodeAt, runOne, leftBy, saidTo, answerBytes, answersBytes, Ran, ran, runAt, runFrom}
 
 -- ---- what a call leaves
 
@@ -47,14 +45,6 @@ pub checks-it : (b : Board) (journal checks : List ℕ) (row column : ℕ) (r : 
     → leaves r journal after ≡ callOf (session b journal checks) (Check row column)
 unfolding callOf called
 checks-it b journal checks row column r after p = λ i. leaves (p .0 i) journal (p .1 i)
-
--- ---- bytes that encode no call
-
-pub no-call : (kind row column digit : ℕ) → (kind ≡ 2 → ⊥) → (kind ≡ 3 → ⊥) → (kind ≡ 4 → ⊥) → (kind ≡ 5 → ⊥) → (kind ≡ 6 → ⊥) → (kind ≡ 7 → ⊥) → (kind ≡ 8 → ⊥)
-    → decode kind row column digit ≡ Nothing
-unfolding decode pick
-no-call kind row column digit a b c d e f g =
-    rw (ne-eqb kind 2 a, ne-eqb kind 3 b, ne-eqb kind 4 c, ne-eqb kind 5 d, ne-eqb kind 6 e, ne-eqb kind 7 f, ne-eqb kind 8 g)
 
 -- ---- one group more, and none left
 

@@ -1,7 +1,8 @@
 -- Lists of play calls as bytes, and their run.
--- A call is four bytes: kind, row, column, digit. Kinds: 2 place, 3 erase, 4 write mark, 5 strike mark (as in a slot), 6 undo, 7 check, 8 redo.
--- Bytes that a kind does not use are ignored. Any other kind encodes no call: it is answered by number 255 and changes nothing.
--- An answer is four bytes: the number, the place (two bytes, low first), the verdict (1 for right, else 0). No play call has an inner number.
+-- A call is four bytes: which call it is, row, column, digit. Bytes that a call does not use are ignored.
+-- Any other first byte encodes no call: it is answered by number 255 and changes nothing.
+-- An answer is four bytes: the number, the place (two bytes, low first), the verdict (1 for right, else 0).
+-- No play call has an inner number.
 -- As many calls are run as there are whole groups of four both in the calls' bytes and in the answers' bytes;
 -- a last incomplete group is ignored, and answer bytes beyond the last answer stay as they were.
 -- Assumes nothing.
@@ -27,18 +28,44 @@ use Rattle.calls.specs.Session.{Session, Said, Called, called, callOf}
 abbrev pub callBytes : ℕ
 callBytes = 4
 
+-- a call's first byte
+abbrev pub callPlace : ℕ
+callPlace = 2
+
+abbrev pub callErase : ℕ
+callErase = 3
+
+abbrev pub callWriteMark : ℕ
+callWriteMark = 4
+
+abbrev pub callStrikeMark : ℕ
+callStrikeMark = 5
+
+abbrev pub callUndo : ℕ
+callUndo = 6
+
+abbrev pub callCheck : ℕ
+callCheck = 7
+
+abbrev pub callRedo : ℕ
+callRedo = 8
+
 -- the number that answers bytes that encode no call
 abbrev pub noCall : ℕ
 noCall = 255
 
+-- what four bytes encode: a call that is no move, or nothing
+unfoldable pub decodeOther : ℕ → ℕ → ℕ → Decoded
+decodeOther kind row column =
+    pick (eqb kind callUndo) (Of Undo) (pick (eqb kind callCheck) (Of (Check row column)) (pick (eqb kind callRedo) (Of Redo) Nothing))
+
 -- what four bytes encode
 unfoldable pub decode : ℕ → ℕ → ℕ → ℕ → Decoded
 decode kind row column digit =
-    pick (eqb kind 2) (Of (Make (Place row column digit)))
-    (pick (eqb kind 3) (Of (Make (Erase row column)))
-    (pick (eqb kind 4) (Of (Make (WriteMark row column digit)))
-    (pick (eqb kind 5) (Of (Make (StrikeMark row column digit)))
-    (pick (eqb kind 6) (Of Undo) (pick (eqb kind 7) (Of (Check row column)) (pick (eqb kind 8) (Of Redo) Nothing))))))
+    pick (eqb kind callPlace) (Of (Make (Place row column digit)))
+    (pick (eqb kind callErase) (Of (Make (Erase row column)))
+    (pick (eqb kind callWriteMark) (Of (Make (WriteMark row column digit)))
+    (pick (eqb kind callStrikeMark) (Of (Make (StrikeMark row column digit))) (decodeOther kind row column))))
 
 -- what group i encodes, counted from 0
 unfoldable pub decodeAt : List ℕ → ℕ → Decoded
@@ -51,13 +78,13 @@ decoded bytes = listed (decodeAt bytes) (length bytes / callBytes) 0
 
 -- a call's four bytes, 0 where its kind uses none, and those of a list of calls
 unfoldable pub encode : Call → List ℕ
-encode (Make (Place row column digit)) = 2 ∷ row ∷ column ∷ digit ∷ []
-encode (Make (Erase row column)) = 3 ∷ row ∷ column ∷ 0 ∷ []
-encode (Make (WriteMark row column digit)) = 4 ∷ row ∷ column ∷ digit ∷ []
-encode (Make (StrikeMark row column digit)) = 5 ∷ row ∷ column ∷ digit ∷ []
-encode Undo = 6 ∷ 0 ∷ 0 ∷ 0 ∷ []
-encode Redo = 8 ∷ 0 ∷ 0 ∷ 0 ∷ []
-encode (Check row column) = 7 ∷ row ∷ column ∷ 0 ∷ []
+encode (Make (Place row column digit)) = callPlace ∷ row ∷ column ∷ digit ∷ []
+encode (Make (Erase row column)) = callErase ∷ row ∷ column ∷ 0 ∷ []
+encode (Make (WriteMark row column digit)) = callWriteMark ∷ row ∷ column ∷ digit ∷ []
+encode (Make (StrikeMark row column digit)) = callStrikeMark ∷ row ∷ column ∷ digit ∷ []
+encode Undo = callUndo ∷ 0 ∷ 0 ∷ 0 ∷ []
+encode Redo = callRedo ∷ 0 ∷ 0 ∷ 0 ∷ []
+encode (Check row column) = callCheck ∷ row ∷ column ∷ 0 ∷ []
 
 unfoldable pub encoded : List Call → List ℕ
 encoded [] = []

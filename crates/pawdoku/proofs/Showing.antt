@@ -1,8 +1,8 @@
--- A move that is shown: what is answered where it is refused and where its slot is copied, and that the slot has its eight bytes.
+-- A move that is shown: what is answered where it is refused and where its slot is copied, and that the slot has its
+-- eight bytes.
 -- Assumes nothing.
 use Prim.Native.Nat.{ℕ, _+_, _-_, _*_, _≤_, _<_}
 use mathlib.Core.Path.{_≡_, sym, ap, _∙_}
-use mathlib.Core.Bool.{true, false}
 use mathlib.Core.List.{List, _++_}
 use native.Mathlib.Nat.{zero-add}
 use native.Mathlib.Omega.{arith}
@@ -19,7 +19,6 @@ use Rattle.journal.specs.Slots.{slotPart, slotStart}
 use Rattle.board.specs.declared.Board.{Board}
 use Rattle.play.specs.Play.{latestNumber, latestPart, nextNumber, nextPart}
 use Rattle.play.proofs.Accepted.{latest-part, latest-within, next-part, next-within}
-use Rattle.calls.specs.Encoded.{ran, session, runOf}
 use Rattle.pawdoku.specs.declared.Shown.{Shown}
 use Rattle.pawdoku.specs.Library.{notShown, shownAt, showing, showNumber, shown}
 

@@ -1,4 +1,4 @@
--- What the library answers where the board's own definitions do not say it: a move that is shown, copied.
+-- What the library answers where the board's own definitions do not say it: a move that is shown, copied; its version.
 -- Assumes nothing.
 use Prim.Native.Nat.{ℕ, _*_, _-_}
 use mathlib.Core.Bool.{not}
@@ -58,3 +58,9 @@ digitsIn note = record { digits = digitsOf note }
 
 unfoldable pub peerCells : ℕ → PeerCells
 peerCells cell = record { cells = peersOf cell }
+
+-- ---- the boundary
+
+-- which version of names, layouts and numbers the library has
+abbrev pub version : ℕ
+version = 1

@@ -1,13 +1,27 @@
-// The play calls, one at a time and as an encoded list.
+// The play calls, one at a time.
 use board::Answer;
 use board::Board;
 use board::Checked;
-use puzzle::answer::accepted;
+use journal::JOURNAL_BYTES;
+use journal::Move;
+use puzzle::answer::refusal;
 ghost use mathlib.Core.Path.{_≡_};
-ghost use Rattle.play.specs.Play.{placeOf, eraseOf, writeMarkOf, strikeMarkOf, undoOf, redoOf};
+ghost use Rattle.play.specs.Play.{playOf, placeOf, eraseOf, writeMarkOf, strikeMarkOf, undoOf, redoOf};
 ghost use Rattle.play.specs.Check.{checkOf};
-ghost use Rattle.puzzle.specs.Refusals.{accepted as acceptedOf};
-ghost use Rattle.calls.specs.Encoded.{ran, session, runOf};
+
+// A call that makes a move. Number 1 is asked here, so that a call that is refused at once copies the board once.
+fn made(board: Board, journal: &mut [u8], m: Move) -> Answer
+    ensures { λ r. ⌜ r ≡ playOf board (now (journal .entry)) m .answer ⌝ }
+    ensures { λ _. ⌜ now (journal .exit) ≡ playOf board (now (journal .entry)) m .journal ⌝ }
+{
+    if journal.len() != JOURNAL_BYTES {
+        return Answer {
+            refusal: refusal(1, 0, 0),
+            board: board,
+        };
+    }
+    play::moves::play(board, journal, m)
+}
 
 #[no_mangle]
 pub extern "C" fn pawdoku_place(
@@ -20,20 +34,24 @@ pub extern "C" fn pawdoku_place(
     ensures { λ r. ⌜ r ≡ placeOf board (now (journal .entry)) row column digit .answer ⌝ }
     ensures { λ _. ⌜ now (journal .exit) ≡ placeOf board (now (journal .entry)) row column digit .journal ⌝ }
 {
-    play::moves::place(board, journal, row, column, digit)
+    let m = Move::Place {
+        row: row,
+        column: column,
+        digit: digit,
+    };
+    made(board, journal, m)
 }
 
 #[no_mangle]
-pub extern "C" fn pawdoku_erase(
-    board: Board,
-    journal: &mut [u8],
-    row: u8,
-    column: u8,
-) -> Answer
+pub extern "C" fn pawdoku_erase(board: Board, journal: &mut [u8], row: u8, column: u8) -> Answer
     ensures { λ r. ⌜ r ≡ eraseOf board (now (journal .entry)) row column .answer ⌝ }
     ensures { λ _. ⌜ now (journal .exit) ≡ eraseOf board (now (journal .entry)) row column .journal ⌝ }
 {
-    play::moves::erase(board, journal, row, column)
+    let m = Move::Erase {
+        row: row,
+        column: column,
+    };
+    made(board, journal, m)
 }
 
 #[no_mangle]
@@ -47,7 +65,12 @@ pub extern "C" fn pawdoku_write_mark(
     ensures { λ r. ⌜ r ≡ writeMarkOf board (now (journal .entry)) row column digit .answer ⌝ }
     ensures { λ _. ⌜ now (journal .exit) ≡ writeMarkOf board (now (journal .entry)) row column digit .journal ⌝ }
 {
-    play::moves::write_mark(board, journal, row, column, digit)
+    let m = Move::WriteMark {
+        row: row,
+        column: column,
+        digit: digit,
+    };
+    made(board, journal, m)
 }
 
 #[no_mangle]
@@ -61,7 +84,12 @@ pub extern "C" fn pawdoku_strike_mark(
     ensures { λ r. ⌜ r ≡ strikeMarkOf board (now (journal .entry)) row column digit .answer ⌝ }
     ensures { λ _. ⌜ now (journal .exit) ≡ strikeMarkOf board (now (journal .entry)) row column digit .journal ⌝ }
 {
-    play::moves::strike_mark(board, journal, row, column, digit)
+    let m = Move::StrikeMark {
+        row: row,
+        column: column,
+        digit: digit,
+    };
+    made(board, journal, m)
 }
 
 #[no_mangle]
@@ -79,32 +107,9 @@ pub extern "C" fn pawdoku_redo(board: Board, journal: &[u8]) -> Answer
 }
 
 #[no_mangle]
-pub extern "C" fn pawdoku_check(
-    board: Board,
-    checks: &mut [u8],
-    row: u8,
-    column: u8,
-) -> Checked
+pub extern "C" fn pawdoku_check(board: Board, checks: &mut [u8], row: u8, column: u8) -> Checked
     ensures { λ r. ⌜ r ≡ checkOf board (now (checks .entry)) row column .answer ⌝ }
     ensures { λ _. ⌜ now (checks .exit) ≡ checkOf board (now (checks .entry)) row column .checks ⌝ }
 {
     play::checks::check(board, checks, row, column)
-}
-
-#[no_mangle]
-pub extern "C" fn pawdoku_play(
-    board: Board,
-    journal: &mut [u8],
-    checks: &mut [u8],
-    calls: &[u8],
-    answers: &mut [u8],
-) -> Answer
-    ensures { λ r. ⌜ r .refusal ≡ acceptedOf ⌝ }
-    ensures { λ r. ⌜ ran (session (r .board) (now (journal .exit)) (now (checks .exit))) (now (answers .exit)) ≡ runOf (session board (now (journal .entry)) (now (checks .entry))) (now (calls .entry)) (now (answers .entry)) ⌝ }
-{
-    let left = calls::run::play(board, journal, checks, calls, answers);
-    Answer {
-        refusal: accepted(),
-        board: left,
-    }
 }

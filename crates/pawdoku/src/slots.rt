@@ -1,11 +1,11 @@
 // What the journal shows: the latest standing move, the next to redo, and the reading of move k.
-// A part of the journal cannot be returned over the C boundary, so the slot's bytes are copied and its offset is answered.
-use board::Board;
+// A part of the journal cannot be returned over the C boundary: the slot's bytes are copied and its offset is answered.
 use crate::Shown;
+use board::Board;
 use journal::SLOT_BYTES;
-use readings::Reading;
 use puzzle::answer::accepted;
 use puzzle::answer::refusal;
+use readings::Reading;
 ghost use mathlib.Core.Path.{_≡_};
 ghost use lib.ListN.{length};
 ghost use Rattle.journal.specs.Limits.{slotBytes};

@@ -1,6 +1,8 @@
-// Replays stored answers of the Rust original: each block of standard input is a session or a reopening with what the original answered. Every answer, the board, the record,
-// its reopening, the questions and some readings must be those that are stored. docs/VECTORS.md has the layout.
+// Replays stored answers of the Rust original: each block of standard input is a session or a reopening with what the
+// original answered. Every answer, the board, the record, its reopening, the questions and some readings must be those
+// that are stored. All of it goes through the functions that a host calls. docs/VECTORS.md has the layout.
 use board::Board;
+use calls::CALL_BYTES;
 use journal::CHECK_BYTES;
 use journal::CHECK_MEMORY;
 use journal::JOURNAL_BYTES;
@@ -9,17 +11,52 @@ use journal::MAX_MOVES;
 use journal::SLOT_BYTES;
 use libc::STDIN_FILENO;
 use libc::STDOUT_FILENO;
-use readings::Reading;
+use pawdoku::asked::pawdoku_can_redo;
+use pawdoku::asked::pawdoku_can_undo;
+use pawdoku::asked::pawdoku_cell;
+use pawdoku::asked::pawdoku_digits_left;
+use pawdoku::asked::pawdoku_is_consistent;
+use pawdoku::asked::pawdoku_is_full;
+use pawdoku::asked::pawdoku_is_solved;
+use pawdoku::grid::pawdoku_cell_of;
+use pawdoku::list::pawdoku_play;
+use pawdoku::saved::pawdoku_open;
+use pawdoku::saved::pawdoku_reopen;
+use pawdoku::saved::pawdoku_write;
+use pawdoku::slots::pawdoku_reading;
 use puzzle::Refusal;
 use puzzle::byte_at;
 use puzzle::digit_at;
 use puzzle::index_of;
-use sudoku::cell_of;
+use readings::Reading;
+use sudoku::CELLS;
+use sudoku::LINE;
+use sudoku::SIDE;
 use sudoku::wide;
 ghost use Prim.Native.Nat.{_<_, _≤_};
 
 // No sum of sizes in a block comes near this.
 const LARGE: usize = 1000000;
+// Room for the answers to the calls of a session: no stored one has as many.
+const ANSWERS: usize = 16384;
+// No record is longer.
+const MAX_RECORD: usize = 5955;
+// Bytes of a given, of a stored refusal, and of a number.
+const GIVEN: usize = 3;
+
+const REFUSAL: usize = 4;
+
+const NUMBER: usize = 2;
+// Every block: its tag, then the solution.
+const SOLUTION_AT: usize = 1;
+
+const BEHIND_SOLUTION: usize = 82;
+// Digits and notes.
+const GRIDS: usize = 243;
+// Digits, notes, flags and the three counts.
+const STATE: usize = 250;
+// A reading: seven bytes, then digits and notes.
+const READING: usize = 250;
 
 // The sum, for sizes and counts: it stays where one is larger than anything a block can hold.
 fn plus(a: usize, b: usize) -> usize {
@@ -82,11 +119,22 @@ fn refusal_differs(r: Refusal, block: &[u8], at: usize) -> usize {
 fn notes_differ(notes: &[u16; 81], block: &[u8], at: usize) -> usize {
     let mut found: usize = 0;
     let mut i: usize = 0;
-    while i < 81 {
+    while i < CELLS {
         found = plus(
             found,
             differs(note_value(notes[i]) == number_at(block, plus(at, 2 * i))),
         );
+        i += 1;
+    }
+    found
+}
+
+// How many notes differ between two boards.
+fn notes_apart(a: &[u16; 81], b: &[u16; 81]) -> usize {
+    let mut found: usize = 0;
+    let mut i: usize = 0;
+    while i < CELLS {
+        found = plus(found, differs(a[i] == b[i]));
         i += 1;
     }
     found
@@ -112,15 +160,21 @@ fn found(walk: Walk, differences: usize, bytes: usize) -> Walk {
     next
 }
 
+// The solution of a block.
+fn solution_of<'a>(block: &'a [u8]) -> &'a [u8] {
+    part(block, SOLUTION_AT, CELLS)
+}
+
 // Tag, solution, givens and the answer to opening.
 fn opening(block: &[u8], journal: &mut [u8], checks: &mut [u8]) -> Walk {
-    let givens = 3 * wide(byte_at(block, 82));
-    let at = plus(83, givens);
-    let answer = board::open::open(part(block, 83, givens), part(block, 1, 81), journal, checks);
+    let length = GIVEN * wide(byte_at(block, BEHIND_SOLUTION));
+    let givens = part(block, BEHIND_SOLUTION + 1, length);
+    let at = plus(BEHIND_SOLUTION + 1, length);
+    let answer = pawdoku_open(givens, solution_of(block), journal, checks);
     let opened = answer.board;
     Walk {
         board: opened,
-        at: plus(at, 4),
+        at: plus(at, REFUSAL),
         calls: 0,
         readings: 0,
         differences: refusal_differs(answer.refusal, block, at),
@@ -130,21 +184,17 @@ fn opening(block: &[u8], journal: &mut [u8], checks: &mut [u8]) -> Walk {
 // The number of calls, the calls, and their answers.
 fn calls(block: &[u8], walk: Walk, journal: &mut [u8], checks: &mut [u8]) -> Walk {
     let count = number_at(block, walk.at);
-    let start = plus(walk.at, 2);
-    let length = 4 * count;
-    let mut answers = [0u8; 16384];
-    let left = calls::run::play(
-        walk.board,
-        journal,
-        checks,
-        part(block, start, length),
-        &mut answers,
-    );
+    let start = plus(walk.at, NUMBER);
+    let length = CALL_BYTES * count;
+    let list = part(block, start, length);
+    let mut answers = [0u8; ANSWERS];
+    let answer = pawdoku_play(walk.board, journal, checks, list, &mut answers);
+    let left = answer.board;
     let wrong = differing(
         part(block, plus(start, length), length),
         part(&answers, 0, length),
     );
-    let mut next = found(walk, wrong, plus(2, 2 * length));
+    let mut next = found(walk, wrong, plus(NUMBER, 2 * length));
     next.board = left;
     next.calls = count;
     next
@@ -157,11 +207,11 @@ fn bit_differs(flags: u8, bit: u8, holds: bool) -> usize {
 
 // solved, full, consistent, can undo, can redo: one bit each.
 fn questions_differ(board: Board, flags: u8) -> usize {
-    let solved = bit_differs(flags, 1, questions::status(board).holds);
-    let full = bit_differs(flags, 2, questions::is_full(board).holds);
-    let consistent = bit_differs(flags, 4, questions::is_consistent(board).holds);
-    let undo = bit_differs(flags, 8, questions::can_undo(board).holds);
-    let redo = bit_differs(flags, 16, questions::can_redo(board).holds);
+    let solved = bit_differs(flags, 1, pawdoku_is_solved(board).holds);
+    let full = bit_differs(flags, 2, pawdoku_is_full(board).holds);
+    let consistent = bit_differs(flags, 4, pawdoku_is_consistent(board).holds);
+    let undo = bit_differs(flags, 8, pawdoku_can_undo(board).holds);
+    let redo = bit_differs(flags, 16, pawdoku_can_redo(board).holds);
     plus(plus(plus(solved, full), plus(consistent, undo)), redo)
 }
 
@@ -169,32 +219,34 @@ fn questions_differ(board: Board, flags: u8) -> usize {
 fn state(block: &[u8], walk: Walk) -> Walk {
     let board = walk.board;
     let at = walk.at;
-    let digits = differing(&board.digits, part(block, at, 81));
-    let notes = notes_differ(&board.notes, block, plus(at, 81));
-    let flags = questions_differ(board, byte_at(block, plus(at, 243)));
-    let made = differs(board.made == number_at(block, plus(at, 244)));
-    let standing = differs(board.standing == number_at(block, plus(at, 246)));
-    let checks = differs(board.checks == number_at(block, plus(at, 248)));
+    let digits = differing(&board.digits, part(block, at, CELLS));
+    let notes = notes_differ(&board.notes, block, plus(at, CELLS));
+    let flags = questions_differ(board, byte_at(block, plus(at, GRIDS)));
+    let made = differs(board.made == number_at(block, plus(at, GRIDS + 1)));
+    let standing = differs(board.standing == number_at(block, plus(at, GRIDS + 3)));
+    let checks = differs(board.checks == number_at(block, plus(at, GRIDS + 5)));
     let counts = plus(plus(made, standing), checks);
-    found(walk, plus(plus(digits, notes), plus(flags, counts)), 250)
+    found(walk, plus(plus(digits, notes), plus(flags, counts)), STATE)
 }
 
-// The question for one cell: bits for conflicting, given and whether its note is shown; digit and kept note are compared with the board's.
+// The question for one cell: bits for conflicting, given and whether its note is shown. The digit is compared with the
+// board's, and so is the flag of a given.
 fn cell_differs(board: Board, block: &[u8], at: usize, row: u8, column: u8) -> usize {
-    let answer = questions::cell(board, row, column);
-    let index = index_of(cell_of(row, column));
-    let flags = byte_at(block, plus(at, index));
+    let answer = pawdoku_cell(board, row, column);
+    let cell = pawdoku_cell_of(row, column);
+    let flags = byte_at(block, plus(at, index_of(cell)));
     let conflicts = bit_differs(flags, 1, answer.conflicting);
     let given = bit_differs(flags, 2, answer.given);
     let shown = bit_differs(flags, 4, answer.shown);
-    let digit = differs(answer.digit == digit_at(&board.digits, cell_of(row, column)));
-    plus(plus(conflicts, given), plus(shown, digit))
+    let digit = differs(answer.digit == digit_at(&board.digits, cell));
+    let flag = bit_differs(digit_at(&board.given, cell), 1, answer.given);
+    plus(plus(plus(conflicts, given), plus(shown, digit)), flag)
 }
 
 fn row_differs(board: Board, block: &[u8], at: usize, row: u8) -> usize {
     let mut wrong: usize = 0;
     let mut column: u8 = 1;
-    while column <= 9 {
+    while column <= SIDE {
         wrong = plus(wrong, cell_differs(board, block, at, row, column));
         column += 1;
     }
@@ -205,24 +257,24 @@ fn row_differs(board: Board, block: &[u8], at: usize, row: u8) -> usize {
 fn cells(block: &[u8], walk: Walk) -> Walk {
     let mut wrong: usize = 0;
     let mut row: u8 = 1;
-    while row <= 9 {
+    while row <= SIDE {
         wrong = plus(wrong, row_differs(walk.board, block, walk.at, row));
         row += 1;
     }
-    found(walk, wrong, 81)
+    found(walk, wrong, CELLS)
 }
 
 // Digits left for each key, one byte each.
 fn keys(block: &[u8], walk: Walk) -> Walk {
     let mut wrong: usize = 0;
     let mut key: u8 = 1;
-    while key <= 9 {
-        let answer = questions::digits_left(walk.board, key);
+    while key <= SIDE {
+        let answer = pawdoku_digits_left(walk.board, key);
         let stored = byte_at(block, plus(walk.at, wide(key) - 1));
         wrong = plus(wrong, differs(answer.left == stored));
         key += 1;
     }
-    found(walk, wrong, 9)
+    found(walk, wrong, LINE)
 }
 
 // The first `length` bytes of two memories.
@@ -242,14 +294,16 @@ fn least(a: usize, b: usize) -> usize
 // Whether a reopened board is the one that was played: its arrays, status and counts.
 fn board_differs(a: Board, b: Board) -> usize {
     let digits = differing(&a.digits, &b.digits);
+    let given = differing(&a.given, &b.given);
+    let notes = notes_apart(&a.notes, &b.notes);
     let solution = differing(&a.solution, &b.solution);
     let solved = differs(a.solved == b.solved);
     let made = differs(a.made == b.made);
     let standing = differs(a.standing == b.standing);
     let checks = differs(a.checks == b.checks);
     plus(
-        plus(plus(digits, solution), plus(solved, made)),
-        plus(standing, checks),
+        plus(plus(digits, given), plus(notes, solution)),
+        plus(plus(solved, made), plus(standing, checks)),
     )
 }
 
@@ -258,7 +312,7 @@ fn reopened(record: &[u8], walk: Walk, journal: &[u8], checks: &[u8]) -> usize {
     let board = walk.board;
     let mut journal2 = [0u8; JOURNAL_BYTES];
     let mut checks2 = [0u8; CHECK_MEMORY];
-    let answer = reopen::reopen(record, &board.solution, &mut journal2, &mut checks2);
+    let answer = pawdoku_reopen(record, &board.solution, &mut journal2, &mut checks2);
     let refused = differs(answer.refusal.number == 0);
     let wrong = board_differs(board, answer.board);
     let moved = start_differs(
@@ -277,13 +331,13 @@ fn reopened(record: &[u8], walk: Walk, journal: &[u8], checks: &[u8]) -> usize {
 // The record's length and the record: written by the board, and reopened.
 fn record(block: &[u8], walk: Walk, journal: &[u8], checks: &[u8]) -> Walk {
     let length = number_at(block, walk.at);
-    let stored = part(block, plus(walk.at, 2), length);
-    let mut output = [0u8; 5955];
-    let written = record::write::write(walk.board, journal, checks, &mut output);
+    let stored = part(block, plus(walk.at, NUMBER), length);
+    let mut output = [0u8; MAX_RECORD];
+    let written = pawdoku_write(walk.board, journal, checks, &mut output);
     let refused = differs(written.refusal.number == 0);
     let wrong = differing(stored, part(&output, 0, written.length));
     let back = reopened(stored, walk, journal, checks);
-    found(walk, plus(plus(refused, wrong), back), plus(2, length))
+    found(walk, plus(plus(refused, wrong), back), plus(NUMBER, length))
 }
 
 // A reading: k, kind, row, column, digit, undone, the digits and the notes.
@@ -293,8 +347,8 @@ fn reading_differs(reading: Reading, block: &[u8], at: usize) -> usize {
     let column = differs(reading.column == byte_at(block, plus(at, 4)));
     let digit = differs(reading.digit == byte_at(block, plus(at, 5)));
     let undone = bit_differs(byte_at(block, plus(at, 6)), 1, reading.undone);
-    let digits = differing(&reading.digits, part(block, plus(at, 7), 81));
-    let notes = notes_differ(&reading.notes, block, plus(at, 88));
+    let digits = differing(&reading.digits, part(block, plus(at, 7), CELLS));
+    let notes = notes_differ(&reading.notes, block, plus(at, 7 + CELLS));
     plus(
         plus(plus(kind, row), plus(column, digit)),
         plus(undone, plus(digits, notes)),
@@ -302,9 +356,9 @@ fn reading_differs(reading: Reading, block: &[u8], at: usize) -> usize {
 }
 
 fn one_reading(block: &[u8], walk: Walk, journal: &[u8]) -> Walk {
-    let answer = readings::read::reading(walk.board, journal, number_at(block, walk.at));
+    let answer = pawdoku_reading(walk.board, journal, number_at(block, walk.at));
     let wrong = reading_differs(answer, block, walk.at);
-    let mut next = found(walk, wrong, 250);
+    let mut next = found(walk, wrong, READING);
     next.readings = plus(walk.readings, 1);
     next
 }
@@ -351,15 +405,15 @@ struct Tally {
 fn reopening_differs(block: &[u8]) -> usize {
     let mut journal = [0u8; JOURNAL_BYTES];
     let mut checks = [0u8; CHECK_MEMORY];
-    let length = number_at(block, 86);
-    let answer = reopen::reopen(
-        part(block, 88, length),
-        part(block, 1, 81),
-        &mut journal,
-        &mut checks,
-    );
-    let whole = differs(block.len() == plus(88, length));
-    plus(whole, refusal_differs(answer.refusal, block, 82))
+    let at = BEHIND_SOLUTION + REFUSAL;
+    let length = number_at(block, at);
+    let record = part(block, at + NUMBER, length);
+    let answer = pawdoku_reopen(record, solution_of(block), &mut journal, &mut checks);
+    let whole = differs(block.len() == plus(at + NUMBER, length));
+    plus(
+        whole,
+        refusal_differs(answer.refusal, block, BEHIND_SOLUTION),
+    )
 }
 
 fn add_reopening(tally: Tally, block: &[u8]) -> Tally {
@@ -406,11 +460,12 @@ fn read_block(buffer: &mut [u8], length: usize) -> usize {
     io::read_full(STDIN_FILENO, &mut buffer[..length])
 }
 
-// Reads one block, two bytes of length before it, and replays it. Where the input ends there is no more; a block that is cut short differs.
+// Reads one block, two bytes of length before it, and replays it. Where the input ends there is no more; a block cut
+// short differs.
 fn next_block(tally: Tally) -> Tally {
-    let mut header = [0u8; 2];
-    let got = read_block(&mut header, 2);
-    if got != 2 {
+    let mut header = [0u8; NUMBER];
+    let got = read_block(&mut header, NUMBER);
+    if got != NUMBER {
         return ended(tally, got);
     }
     let length = number_at(&header, 0);
@@ -422,7 +477,8 @@ fn next_block(tally: Tally) -> Tally {
     add_block(tally, part(&buffer, 0, length))
 }
 
-// A proved loop has to end, and nothing says that the input does: it counts its turns down, from a number that no input uses up.
+// A proved loop has to end, and nothing says that the input does: it counts its turns down, from a number that no input
+// uses up.
 fn replay() -> Tally {
     let mut tally = Tally {
         more: true,

@@ -89,6 +89,8 @@ impl Boards<'_> {
         self.call("write mark", Call::Write);
         self.call("undo of a mark", |_, _| Call::Undo);
         self.call("redo of a mark", |_, _| Call::Redo);
+        self.time("undo of a mark, the answer copied", |b, _| make(b, Call::Undo), |b, _| b.undo_and_copy());
+        self.time("redo of a mark, the answer copied", |b, _| make(b, Call::Redo), |b, _| b.redo_and_copy());
         self.call("strike mark", Call::Strike);
         self.call("place", Call::Place);
         self.call("undo of a place", |_, _| Call::Undo);

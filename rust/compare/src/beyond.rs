@@ -11,7 +11,7 @@ use crate::report::{Counts, same, same_bytes};
 use crate::rng::Rng;
 use original::solver::{load, vouched};
 use original::sudoku::Puzzle;
-use pawdoku::{Board, MAX_RECORD, Refusal, kind, sys};
+use pawdoku::{Board, MAX_RECORD, Refusal, call, kind, sys};
 
 /// The leaves, for every byte and every note.
 pub fn leaves(counts: &mut Counts) -> Compared {
@@ -217,7 +217,7 @@ impl Bench<'_> {
             }
             all_answer(2, self, [8192, 1536, 7])?;
             self.questions_of_a_foreign_board()?;
-            self.list_on_a_foreign_board(damage > 8)?;
+            self.list_on_a_foreign_board()?;
         }
         self.board = sound;
         same("memory after refused calls", &before, &self.memory)
@@ -242,16 +242,16 @@ impl Bench<'_> {
         said.into_iter().try_for_each(|said| self.refused(said, 2))
     }
 
-    /// A list is refused where a flag is none; else each of its calls is.
-    fn list_on_a_foreign_board(&mut self, a_flag_is_none: bool) -> Compared {
-        let mut answers = [0x5a; 8];
+    /// A list is run: each of its calls is refused by 2, and bytes that are no call by 255.
+    fn list_on_a_foreign_board(&mut self) -> Compared {
+        let mut answers = [0x5a; 16];
         let memory = &mut self.memory;
-        let calls = [2, 1, 1, 1, 6, 0, 0, 0];
+        let calls = [call::PLACE, 1, 1, 1, call::UNDO, 0, 0, 0, call::CHECK, 0, 1, 0, 9, 1, 1, 1];
         let answer = sys::play(&self.board, &mut memory.journal, &mut memory.checks, &calls, &mut answers);
-        same("the board after a refused list", &self.board, &answer.board)?;
-        let expected = if a_flag_is_none { [0x5a; 8] } else { [2, 0, 0, 0, 2, 0, 0, 0] };
+        same("the board after a list on a foreign board", &self.board, &answer.board)?;
+        let expected = [2, 0, 0, 0, 2, 0, 0, 0, 2, 0, 0, 0, 255, 0, 0, 0];
         same("answers of a list on a foreign board", &expected, &answers)?;
-        self.refused(answer.refusal, if a_flag_is_none { 2 } else { 0 })
+        self.refused(answer.refusal, 0)
     }
 
     // Number 14.

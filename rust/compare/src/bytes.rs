@@ -1,6 +1,6 @@
 //! Record bytes by document 01, written apart from the library: items to bytes and back, and refusals 17 to 19.
 
-use pawdoku::{MAX_CHECKS, MAX_MOVES, Refusal, kind};
+use pawdoku::{MAX_CHECKS, MAX_MOVES, Refusal, kind, record};
 
 /// A refusal, shortly.
 pub const fn refusal(number: u8, place: usize, inner: u8) -> Refusal {
@@ -95,9 +95,9 @@ impl Items {
     fn take(&mut self, kind: u8, body: &[u8]) {
         let number = u16::from_le_bytes([body[0], body[1]]);
         match kind {
-            kind::GIVEN => self.givens.push([body[0], body[1], body[2]]),
-            kind::UNDO => self.undone = number,
-            kind::CHECK => {
+            record::GIVEN => self.givens.push([body[0], body[1], body[2]]),
+            record::UNDONE => self.undone = number,
+            record::CHECK => {
                 self.checks.push(Check { standing: number, row: body[2], column: body[3], digit: body[4] });
             }
             _ => {
@@ -120,7 +120,7 @@ impl Items {
     pub fn write(&self) -> Vec<u8> {
         let mut bytes = Vec::new();
         for given in &self.givens {
-            bytes.push(kind::GIVEN);
+            bytes.push(record::GIVEN);
             bytes.extend(given);
         }
         for made in &self.moves {
@@ -129,10 +129,10 @@ impl Items {
                 bytes.push(made.digit);
             }
         }
-        bytes.push(kind::UNDO);
+        bytes.push(record::UNDONE);
         bytes.extend(self.undone.to_le_bytes());
         for check in &self.checks {
-            bytes.push(kind::CHECK);
+            bytes.push(record::CHECK);
             bytes.extend(check.standing.to_le_bytes());
             bytes.extend([check.row, check.column, check.digit]);
         }

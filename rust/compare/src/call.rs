@@ -1,7 +1,7 @@
 //! The play calls.
 
 use core::fmt;
-use pawdoku::kind;
+use pawdoku::call;
 
 /// A play call.
 #[derive(Debug, Clone, Copy, PartialEq, Eq)]
@@ -26,13 +26,13 @@ impl Call {
     /// The four bytes that encode it.
     pub const fn encoded(self) -> [u8; 4] {
         match self {
-            Self::Place(row, column, digit) => [kind::PLACE, row, column, digit],
-            Self::Erase(row, column) => [kind::ERASE, row, column, 0],
-            Self::WriteMark(row, column, digit) => [kind::WRITE_MARK, row, column, digit],
-            Self::StrikeMark(row, column, digit) => [kind::STRIKE_MARK, row, column, digit],
-            Self::Undo => [kind::UNDO, 0, 0, 0],
-            Self::Redo => [kind::REDO, 0, 0, 0],
-            Self::Check(row, column) => [kind::CHECK, row, column, 0],
+            Self::Place(row, column, digit) => [call::PLACE, row, column, digit],
+            Self::Erase(row, column) => [call::ERASE, row, column, 0],
+            Self::WriteMark(row, column, digit) => [call::WRITE_MARK, row, column, digit],
+            Self::StrikeMark(row, column, digit) => [call::STRIKE_MARK, row, column, digit],
+            Self::Undo => [call::UNDO, 0, 0, 0],
+            Self::Redo => [call::REDO, 0, 0, 0],
+            Self::Check(row, column) => [call::CHECK, row, column, 0],
         }
     }
 

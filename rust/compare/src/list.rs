@@ -8,7 +8,7 @@ use crate::report::{Counts, same, same_bytes};
 use crate::rng::Rng;
 use crate::stored;
 use crate::theirs::{State, Theirs};
-use pawdoku::{Refusal, kind};
+use pawdoku::{Refusal, call};
 
 /// The calls since a board was opened or reopened, with what each was answered.
 #[derive(Debug, Clone)]
@@ -70,7 +70,7 @@ fn run_piece(ours: &mut Ours, calls: &[[u8; 4]], answers: &[[u8; 4]], rng: &mut 
         expected.extend(answer);
     }
     // An incomplete group at the end is no call, and bytes behind the answers stay.
-    bytes.extend([kind::UNDO, 0, 0].iter().take(rng.below(4)));
+    bytes.extend([call::UNDO, 0, 0].iter().take(rng.below(4)));
     let (run, behind) = (expected.len(), rng.below(8));
     expected.resize(run + behind, 0x5a);
     let mut found = vec![0x5a; run + behind];
@@ -80,12 +80,11 @@ fn run_piece(ours: &mut Ours, calls: &[[u8; 4]], answers: &[[u8; 4]], rng: &mut 
     same_bytes("answers of the list of calls", &expected, &found)
 }
 
-/// A call's bytes, with anything in those that its kind does not use.
-fn unused_bytes_filled(call: [u8; 4], rng: &mut Rng) -> [u8; 4] {
-    let [kind, row, column, digit] = call;
-    match kind {
-        kind::UNDO | kind::REDO => [kind, rng.byte(), rng.byte(), rng.byte()],
-        kind::ERASE | kind::CHECK => [kind, row, column, rng.byte()],
-        _ => [kind, row, column, digit],
+/// A call's bytes, with anything in those that it does not use.
+fn unused_bytes_filled([which, row, column, digit]: [u8; 4], rng: &mut Rng) -> [u8; 4] {
+    match which {
+        call::UNDO | call::REDO => [which, rng.byte(), rng.byte(), rng.byte()],
+        call::ERASE | call::CHECK => [which, row, column, rng.byte()],
+        _ => [which, row, column, digit],
     }
 }

@@ -15,6 +15,9 @@ pub use refusal::Reason;
 pub use session::Session;
 pub use sys::{Board, Refusal};
 
+/// The version of the library's boundary that this wrapper is written for: of the names, layouts and numbers of
+/// include/pawdoku.h. [`sys::version`] is that of the linked library; a library of another version does not link.
+pub const VERSION: u32 = 1;
 /// Cells of the grid.
 pub const CELLS: usize = 81;
 /// Moves that a journal holds.
@@ -32,7 +35,7 @@ pub const CHECK_MEMORY: usize = CHECK_BYTES * MAX_CHECKS;
 /// No record is longer.
 pub const MAX_RECORD: usize = 5955;
 
-/// The kinds of a move, in slots, readings, records and encoded calls, and the other kinds of encoded calls.
+/// The kinds of a move, in slots, readings and records.
 pub mod kind {
     /// Place a digit.
     pub const PLACE: u8 = 2;
@@ -42,14 +45,34 @@ pub mod kind {
     pub const WRITE_MARK: u8 = 4;
     /// Strike a mark.
     pub const STRIKE_MARK: u8 = 5;
-    /// Undo, in encoded calls; in a record, the count of undone moves.
+}
+
+/// The first byte of a record's items that are no moves.
+pub mod record {
+    /// A given.
+    pub const GIVEN: u8 = 1;
+    /// The count of undone moves.
+    pub const UNDONE: u8 = 6;
+    /// A check.
+    pub const CHECK: u8 = 7;
+}
+
+/// The first byte of an encoded call, which says which call it is: see [`sys::play`].
+pub mod call {
+    /// Place a digit.
+    pub const PLACE: u8 = 2;
+    /// Erase a digit.
+    pub const ERASE: u8 = 3;
+    /// Write a mark.
+    pub const WRITE_MARK: u8 = 4;
+    /// Strike a mark.
+    pub const STRIKE_MARK: u8 = 5;
+    /// Undo.
     pub const UNDO: u8 = 6;
     /// Check.
     pub const CHECK: u8 = 7;
-    /// Redo, in encoded calls.
+    /// Redo.
     pub const REDO: u8 = 8;
-    /// A given, in a record.
-    pub const GIVEN: u8 = 1;
 }
 
 /// A grid without conflicts, for examples and tests: cell (r, c) is (3(r-1) + (r-1)/3 + c-1) mod 9, plus 1.

@@ -46,7 +46,7 @@ impl Session {
         Self::made_by(|journal, checks| sys::open(givens.as_flattened(), solution, journal, checks))
     }
 
-    /// Reopens a record with the puzzle's solution. Uses stack for each undone move: see [`sys::reopen`].
+    /// Reopens a record with the puzzle's solution.
     ///
     /// # Errors
     ///

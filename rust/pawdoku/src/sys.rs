@@ -151,7 +151,7 @@ pub struct Left {
 pub struct ReadingAnswer {
     /// Why the call was refused, if it was.
     pub refusal: Refusal,
-    /// 2 place, 3 erase, 4 write mark, 5 strike mark.
+    /// One of [`crate::kind`]; 0 beside a refusal.
     pub kind: u8,
     /// The target's row.
     pub row: u8,
@@ -215,6 +215,8 @@ mod c {
     use super::{Answer, Board, CellAnswer, Checked, Digits, Left, PeerCells, ReadingAnswer, Shown, Written, YesNo};
 
     unsafe extern "C" {
+        pub fn pawdoku_version() -> u32;
+        pub fn pawdoku_abi_1() -> u32;
         pub fn pawdoku_open(
             givens: *const u8,
             givens_length: usize,
@@ -340,6 +342,11 @@ mod c {
     }
 }
 
+// What these declarations are of: the library has one function with its version in the name, and a library of another
+// version leaves this undefined, so that nothing links with it. Nobody calls it; the name goes with `VERSION`.
+#[used]
+static ABI: unsafe extern "C" fn() -> u32 = c::pawdoku_abi_1;
+
 // SAFETY, for every block below: the declarations are the header's (six with the answer's pointer shown), the structs
 // have its layout, every field is an integer (so that any bytes are a value), and each pointer with its length is a
 // slice that Rust holds for the call: valid for its length, written only where it is borrowed mutably, which also keeps
@@ -353,6 +360,13 @@ unsafe fn laid(call: impl FnOnce(*mut Answer) -> *mut Answer) -> Answer {
     let mut answer = MaybeUninit::uninit();
     call(answer.as_mut_ptr());
     unsafe { answer.assume_init() }
+}
+
+/// The version of the boundary that the linked library has: [`crate::VERSION`].
+#[must_use]
+#[inline]
+pub fn version() -> u32 {
+    unsafe { c::pawdoku_version() }
 }
 
 /// Opens a board on givens, triples of row, column, digit in ascending order. Refused by 1, 19, 22 to 27.
@@ -512,8 +526,6 @@ pub fn write(board: &Board, journal: &[u8], checks: &[u8], output: &mut [u8]) ->
 }
 
 /// Reopens a record with the puzzle's solution. Refused by 1, 17 to 33.
-///
-/// Taking back the record's undone moves uses stack for each of them: docs/PERFORMANCE.md says how much at most.
 #[must_use]
 #[inline]
 pub fn reopen(record: &[u8], solution: &[u8], journal: &mut [u8], checks: &mut [u8]) -> Answer {
@@ -608,8 +620,9 @@ pub fn digits_left(board: &Board, digit: u8) -> Left {
     unsafe { c::pawdoku_digits_left(*board, digit) }
 }
 
-/// Runs a list of calls, four bytes each: kind, row, column, digit. Writes four bytes for each into the answers:
-/// number, place (two bytes, low first), verdict. As many are run as there are whole groups of four in both.
+/// Runs a list of calls, four bytes each: one of [`crate::call`], row, column, digit. Writes four bytes for each into
+/// the answers: number, place (two bytes, low first), verdict. As many are run as there are whole groups of four in
+/// both. The list itself is never refused: each of its calls is answered as it is by itself.
 #[must_use]
 #[inline]
 pub fn play(board: &Board, journal: &mut [u8], checks: &mut [u8], calls: &[u8], answers: &mut [u8]) -> Answer {

@@ -1,31 +1,31 @@
 //! An answer that is laid over the one before is the answer that the call returns, and the journal is the same.
 
 use pawdoku::sys::{self, Answer, Refusal};
-use pawdoku::{Board, CHECK_MEMORY, JOURNAL_BYTES, example_solution, kind};
+use pawdoku::{Board, CHECK_MEMORY, JOURNAL_BYTES, call, example_solution};
 
-/// Kind, row, column, digit, as a list has them.
+/// Which call it is, row, column, digit, as a list has them.
 type Call = [u8; 4];
 
-const KINDS: [u8; 6] = [kind::PLACE, kind::ERASE, kind::WRITE_MARK, kind::STRIKE_MARK, kind::UNDO, kind::REDO];
+const KINDS: [u8; 6] = [call::PLACE, call::ERASE, call::WRITE_MARK, call::STRIKE_MARK, call::UNDO, call::REDO];
 
 fn returned(board: &Board, journal: &mut [u8], [kind, row, column, digit]: Call) -> Answer {
     match kind {
-        kind::PLACE => sys::place(board, journal, row, column, digit),
-        kind::ERASE => sys::erase(board, journal, row, column),
-        kind::WRITE_MARK => sys::write_mark(board, journal, row, column, digit),
-        kind::STRIKE_MARK => sys::strike_mark(board, journal, row, column, digit),
-        kind::UNDO => sys::undo(board, journal),
+        call::PLACE => sys::place(board, journal, row, column, digit),
+        call::ERASE => sys::erase(board, journal, row, column),
+        call::WRITE_MARK => sys::write_mark(board, journal, row, column, digit),
+        call::STRIKE_MARK => sys::strike_mark(board, journal, row, column, digit),
+        call::UNDO => sys::undo(board, journal),
         _ => sys::redo(board, journal),
     }
 }
 
 fn lay(answer: &mut Answer, journal: &mut [u8], [kind, row, column, digit]: Call) {
     match kind {
-        kind::PLACE => sys::place_on(answer, journal, row, column, digit),
-        kind::ERASE => sys::erase_on(answer, journal, row, column),
-        kind::WRITE_MARK => sys::write_mark_on(answer, journal, row, column, digit),
-        kind::STRIKE_MARK => sys::strike_mark_on(answer, journal, row, column, digit),
-        kind::UNDO => sys::undo_on(answer, journal),
+        call::PLACE => sys::place_on(answer, journal, row, column, digit),
+        call::ERASE => sys::erase_on(answer, journal, row, column),
+        call::WRITE_MARK => sys::write_mark_on(answer, journal, row, column, digit),
+        call::STRIKE_MARK => sys::strike_mark_on(answer, journal, row, column, digit),
+        call::UNDO => sys::undo_on(answer, journal),
         _ => sys::redo_on(answer, journal),
     }
 }
@@ -52,22 +52,22 @@ fn opened() -> (Answer, Vec<u8>) {
 fn a_session_is_the_same() {
     let (mut answer, mut journal) = opened();
     let calls = [
-        ([kind::UNDO, 0, 0, 0], 12),
-        ([kind::WRITE_MARK, 1, 2, 5], 0),
-        ([kind::WRITE_MARK, 1, 2, 5], 10),
-        ([kind::PLACE, 1, 3, 5], 0),
-        ([kind::PLACE, 1, 1, 5], 5),
-        ([kind::PLACE, 0, 1, 5], 3),
-        ([kind::STRIKE_MARK, 1, 2, 5], 11),
-        ([kind::UNDO, 0, 0, 0], 0),
-        ([kind::REDO, 0, 0, 0], 0),
-        ([kind::REDO, 0, 0, 0], 13),
-        ([kind::UNDO, 0, 0, 0], 0),
-        ([kind::STRIKE_MARK, 1, 2, 5], 0),
-        ([kind::PLACE, 9, 8, 5], 0),
-        ([kind::ERASE, 9, 8, 0], 0),
-        ([kind::ERASE, 9, 8, 0], 6),
-        ([kind::UNDO, 0, 0, 0], 0),
+        ([call::UNDO, 0, 0, 0], 12),
+        ([call::WRITE_MARK, 1, 2, 5], 0),
+        ([call::WRITE_MARK, 1, 2, 5], 10),
+        ([call::PLACE, 1, 3, 5], 0),
+        ([call::PLACE, 1, 1, 5], 5),
+        ([call::PLACE, 0, 1, 5], 3),
+        ([call::STRIKE_MARK, 1, 2, 5], 11),
+        ([call::UNDO, 0, 0, 0], 0),
+        ([call::REDO, 0, 0, 0], 0),
+        ([call::REDO, 0, 0, 0], 13),
+        ([call::UNDO, 0, 0, 0], 0),
+        ([call::STRIKE_MARK, 1, 2, 5], 0),
+        ([call::PLACE, 9, 8, 5], 0),
+        ([call::ERASE, 9, 8, 0], 0),
+        ([call::ERASE, 9, 8, 0], 6),
+        ([call::UNDO, 0, 0, 0], 0),
     ];
     for (call, expected) in calls {
         assert_eq!(number(&mut answer, &mut journal, call), expected, "{call:?}");
@@ -107,11 +107,11 @@ fn foreign_boards_and_memory_are_refused_the_same() {
 #[test]
 fn a_damaged_slot_is_named_the_same() {
     let (mut answer, mut journal) = opened();
-    assert_eq!(number(&mut answer, &mut journal, [kind::PLACE, 1, 2, 5]), 0);
+    assert_eq!(number(&mut answer, &mut journal, [call::PLACE, 1, 2, 5]), 0);
     journal[0] = 9;
-    assert_eq!(number(&mut answer, &mut journal, [kind::UNDO, 0, 0, 0]), 14);
+    assert_eq!(number(&mut answer, &mut journal, [call::UNDO, 0, 0, 0]), 14);
     assert_eq!(answer.refusal.place, 1);
     answer.board.standing = 0;
-    assert_eq!(number(&mut answer, &mut journal, [kind::REDO, 0, 0, 0]), 14);
+    assert_eq!(number(&mut answer, &mut journal, [call::REDO, 0, 0, 0]), 14);
     assert_eq!(answer.refusal.place, 1);
 }

@@ -1,6 +1,8 @@
 //! The wrapper on the library: positions of the requirement's table through sessions, the leaves, and refused input.
 
-use pawdoku::{Board, CHECK_MEMORY, JOURNAL_BYTES, Reason, Refusal, Session, example_solution, kind, sys};
+use pawdoku::{
+    Board, CHECK_MEMORY, JOURNAL_BYTES, Reason, Refusal, Session, VERSION, call, example_solution, kind, sys,
+};
 
 /// All of the solution but (9, 9).
 fn all_but_the_last() -> Vec<[u8; 3]> {
@@ -11,6 +13,11 @@ fn all_but_the_last() -> Vec<[u8; 3]> {
 
 fn empty() -> Session {
     Session::open(&[], &example_solution()).expect("no givens open")
+}
+
+#[test]
+fn the_library_has_the_wrappers_version() {
+    assert_eq!(sys::version(), VERSION);
 }
 
 #[test]
@@ -63,12 +70,31 @@ fn solved_is_final() {
 #[test]
 fn a_list_of_calls_is_run() {
     let mut session = empty();
-    let calls = [[2, 1, 1, 1], [7, 1, 1, 0], [6, 0, 0, 0], [6, 0, 0, 0], [8, 0, 0, 0], [99, 1, 1, 1]];
+    let (undo, redo) = ([call::UNDO, 0, 0, 0], [call::REDO, 0, 0, 0]);
+    let calls = [[call::PLACE, 1, 1, 1], [call::CHECK, 1, 1, 0], undo, undo, redo, [99, 1, 1, 1]];
     let mut answers = [[9; 4]; 6];
     session.play(&calls, &mut answers);
     let expected = [[0, 0, 0, 0], [0, 0, 0, 1], [0; 4], [12, 0, 0, 0], [0; 4], [255, 0, 0, 0]];
     assert_eq!(answers, expected);
     assert_eq!((session.board().made, session.board().standing), (1, 1));
+}
+
+#[test]
+fn a_list_on_a_foreign_board_is_answered_by_2_call_by_call() {
+    let mut session = empty();
+    session.place(1, 1, 1).expect("placed");
+    let calls = [[call::ERASE, 1, 1, 0], [call::CHECK, 1, 1, 0], [call::UNDO, 0, 0, 0], [9, 1, 1, 1]];
+    let (mut given, mut solved) = (*session.board(), *session.board());
+    given.given[80] = 2;
+    solved.solved = 255;
+    for board in [Board::ZERO, given, solved] {
+        let (mut journal, mut checks) = (*session.journal(), *session.checks());
+        let mut answers = [[9; 4]; 4];
+        let list = sys::play(&board, &mut journal, &mut checks, calls.as_flattened(), answers.as_flattened_mut());
+        assert_eq!((list.refusal.number, list.board), (0, board));
+        assert_eq!(answers, [[2, 0, 0, 0], [2, 0, 0, 0], [2, 0, 0, 0], [255, 0, 0, 0]]);
+        assert_eq!((&journal, &checks), (session.journal(), session.checks()));
+    }
 }
 
 #[test]

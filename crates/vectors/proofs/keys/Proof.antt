@@ -15,8 +15,8 @@ abbrev μ-loop : tie.MeasureT-loop
 loop-holds : tie.Need-loop-holds Inv-loop μ-loop
 loop-holds c = (omega arith, omega arith)
 
-digits-left-requires : tie.Need-digits-left-requires Inv-loop μ-loop
-digits-left-requires c κs = search needs
+pawdoku-digits-left-requires : tie.Need-pawdoku-digits-left-requires Inv-loop μ-loop
+pawdoku-digits-left-requires c κs = search needs
 
 wide-requires : tie.Need-wide-requires Inv-loop μ-loop
 wide-requires c κs = search needs
@@ -58,7 +58,7 @@ keys-spec =
     Inv-loop
     μ-loop
     loop-holds
-    digits-left-requires
+    pawdoku-digits-left-requires
     wide-requires
     sub-plus
     plus-requires
