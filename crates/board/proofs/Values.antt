@@ -9,7 +9,7 @@ use lib.Dec.{eqb}
 use lib.ListN.{getD}
 use Rattle.sudoku.specs.Tests.{both, every}
 use Rattle.sudoku.specs.Grid.{at}
-use Rattle.puzzle.specs.Givens.{isSet}
+use Rattle.puzzle.specs.Givens.{isGiven}
 use Rattle.sudoku.proofs.Walks.{both-assoc, both-second, every-step, every-all}
 
 back-one : (i : ℕ) → i + 1 - 1 ≡ i
@@ -20,8 +20,8 @@ pub at-next : (l : List ℕ) (i : ℕ) → at l (i + 1) ≡ getD l i 0
 unfolding at
 at-next l i = ap (λ (k : ℕ). getD l k 0) (back-one i)
 
-pub set-next : (l : List ℕ) (i : ℕ) → isSet l (i + 1) ≡ not (eqb (getD l i 0) 0)
-unfolding isSet
+pub set-next : (l : List ℕ) (i : ℕ) → isGiven l (i + 1) ≡ not (eqb (getD l i 0) 0)
+unfolding isGiven
 set-next l i = ap (λ (x : ℕ). not (eqb x 0)) (at-next l i)
 
 -- what a turn does: ok is what was found of the cells before, r of this cell too

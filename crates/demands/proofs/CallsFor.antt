@@ -18,15 +18,14 @@ use Rattle.sudoku.proofs.Grid.{cell-of-is-cell, range-from}
 use Rattle.note.specs.Note.{contains}
 use Rattle.note.proofs.Note.{contains-zero}
 use Rattle.puzzle.specs.declared.Given.{Given}
-use Rattle.puzzle.specs.Givens.{isOn, digitsOf, givenCells}
+use Rattle.puzzle.specs.Givens.{isOn, digitsOf, givenCells, isGiven}
 use Rattle.puzzle.specs.Puzzle.{isFull, isConsistent}
 use Rattle.puzzle.proofs.Puzzle.{holds-digit}
 use Rattle.journal.specs.declared.Move.{Move}
 use Rattle.journal.specs.Limits.{maxMoves, maxChecks}
-use Rattle.journal.specs.State.{opening, isGiven, digitAt, holdsPlayersDigit}
-use Rattle.journal.specs.StoredChecks.{Stored, isRight, judge}
-use Rattle.record.specs.declared.Asked.{Asked}
-use Rattle.record.specs.Reopen.{judged}
+use Rattle.journal.specs.State.{opening, digitAt, holdsPlayersDigit}
+use Rattle.journal.specs.StoredChecks.{Stored, isRight, judge, judged}
+use Rattle.journal.specs.declared.Asked.{Asked}
 use Rattle.record.proofs.Readable.{InTime}
 use Rattle.calls.specs.declared.Call.{Call}
 use Rattle.calls.specs.declared.Call.the-variants.{Make, Undo, Check}
@@ -64,8 +63,8 @@ empty-record gs solution (m ∷ ms) undone cs p q r = absurd (omega arith)
 module _ (gs : List Given) (solution : List ℕ) (o : Opens gs solution) where
   -- ---- one check
 
-  module _ (row column digit n : ℕ) (on : onGrid row column ≡ true) (free : isGiven (opening gs) (cellOf row column) ≡ false) (range : inRange digit ≡ true)
-      (unfinished : both (isRight solution (cellOf row column) digit) (eqb (count (λ cell. not (isGiven (opening gs) cell)) 81 1) 1) ≡ false)
+  module _ (row column digit n : ℕ) (on : onGrid row column ≡ true) (free : isGiven (opening gs .given) (cellOf row column) ≡ false) (range : inRange digit ≡ true)
+      (unfinished : both (isRight solution (cellOf row column) digit) (eqb (count (λ cell. not (isGiven (opening gs .given) cell)) 81 1) 1) ≡ false)
       (room : suc n ≤ maxMoves) where
     is : isCell (cellOf row column) ≡ true
     is = cell-of-is-cell row column on
@@ -143,7 +142,7 @@ module _ (gs : List Given) (solution : List ℕ) (o : Opens gs solution) where
   one-asked : (old : List Move) (stored : List Stored) (c : Asked) → Asks (givenCells gs) solution c → InTime c → length stored < maxChecks
       → keep (bookOf gs solution old 0 stored) (lineCalls (c .row) (c .column) (c .digit) (c .standing - 1))
       ≡ bookOf gs solution (line (c .row) (c .column) (c .digit) (c .standing - 1)) 0 (stored ++ (judged solution c ∷ []))
-  unfolding opening isGiven judged
+  unfolding opening
   one-asked old stored c a t u =
       one-check (c .row) (c .column) (c .digit) (c .standing - 1) (a .grid) (a .free) (a .range) (a .unfinished) (omega (arith, t, a .some)) old stored u
       ∙ ap (λ (n : ℕ). bookOf gs solution (line (c .row) (c .column) (c .digit) (c .standing - 1)) 0 (stored ++ (judge solution n (c .row) (c .column) (c .digit) ∷ [])))

@@ -1,6 +1,7 @@
 -- The definitions that the twelve positions compute, from the grid to the calls. A proof that names `computing` on its `unfolding` line opens them all.
 -- Assumes nothing.
 use Prim.Native.Nat.{ℕ}
+use Rattle.puzzle.specs.Givens.{isGiven}
 use Rattle.sudoku.specs.Tests as tests
 use Rattle.sudoku.specs.Grid as grid
 use Rattle.note.specs.Note as note
@@ -41,7 +42,7 @@ unfolding refusals.isAccepted refusals.refusedIf refusals.orElse refusals.firstR
 of-refusals = 0
 
 unfoldable of-givens : ℕ
-unfolding givens.triples givens.precedes givens.ascendFrom givens.ascending givens.putGivens givens.markGivens givens.digitsOf givens.givenCells givens.isSet
+unfolding givens.triples givens.precedes givens.ascendFrom givens.ascending givens.putGivens givens.markGivens givens.digitsOf givens.givenCells givens.isGiven
 of-givens = 0
 
 unfoldable of-puzzle : ℕ
@@ -57,11 +58,11 @@ unfolding bytes.part bytes.over bytes.low bytes.second bytes.third bytes.two byt
 of-bytes = 0
 
 unfoldable of-state : ℕ
-unfolding state.opening state.isGiven state.digitAt state.noteAt state.holdsPlayersDigit state.acceptsMarks state.withNotes state.putDigit state.writeAt state.strikeAt state.strikeAll state.holders state.lowest state.strikeMasked state.writeMasked state.everyMasked state.rowIn state.columnIn state.digitIn state.kindOf state.perform state.before state.struck state.performAgain state.takeBack state.standsAsLeft state.standsAsFound
+unfolding state.opening state.digitAt state.noteAt state.holdsPlayersDigit state.acceptsMarks state.withNotes state.putDigit state.writeAt state.strikeAt state.strikeAll state.holders state.lowest state.strikeMasked state.writeMasked state.everyMasked state.rowIn state.columnIn state.digitIn state.kindOf state.perform state.before state.struck state.performAgain state.takeBack state.standsAsLeft state.standsAsFound
 of-state = 0
 
 unfoldable of-slots : ℕ
-unfolding slots.slotFor slots.bytesOf slots.slotStart slots.slotPart slots.slotAt slots.moveOf slots.soundPlace slots.soundErase slots.soundMark slots.isSound
+unfolding slots.slotFor slots.bytesOf slots.slotStart slots.slotPart slots.slotAt slots.moveOf slots.soundPlace slots.soundErase slots.soundMark slots.isFree slots.isSound
 of-slots = 0
 
 unfoldable of-counts : ℕ
@@ -69,7 +70,7 @@ unfolding counts.recorded counts.takenBack counts.retaken
 of-counts = 0
 
 unfoldable of-stored-checks : ℕ
-unfolding checks.isRight checks.judge checks.storedBytes checks.storedAll checks.checkStart checks.verdictByte checks.storedAt checks.isSoundCheck
+unfolding checks.isRight checks.storedBytes checks.storedAll checks.checkStart checks.verdictByte checks.storedAt checks.soundStored checks.isSoundCheck
 of-stored-checks = 0
 
 unfoldable of-board : ℕ
@@ -81,7 +82,7 @@ unfolding opening.noMoves opening.noChecks opening.wrongLength opening.turnedAwa
 of-open = 0
 
 unfoldable of-play : ℕ
-unfolding play.moveTests play.lentTests play.callTests play.recordMove play.playOf play.slotRefusal play.unsoundSlot play.canTakeBack play.undoTests play.undone play.undoOf play.canRetake play.redoTests play.redone play.redoOf
+unfolding play.moveTests board.lentTests play.undoBefore play.redoBefore play.journalRefusal play.callTests play.recordMove play.playOf play.slotRefusal play.unsoundSlot play.canTakeBack play.undoTests play.undone play.undoOf play.canRetake play.redoTests play.redone play.redoOf
 of-play = 0
 
 unfoldable of-check : ℕ
@@ -97,11 +98,11 @@ unfolding scan.body2 scan.body3 scan.body5 scan.byKind scan.takeItem scan.goOn s
 of-scan = 0
 
 unfoldable of-write : ℕ
-unfolding writing.givensFrom writing.givensOf writing.movesOf writing.askedAt writing.askedOf writing.partsOf writing.unsoundCheck writing.writeRefusal writing.writeOf
+unfolding writing.givensFrom writing.givensOf writing.movesOf writing.askedOf writing.partsOf writing.unsoundCheck writing.unwritable writing.writeRefusal writing.writeOf
 of-write = 0
 
 unfoldable of-reopen : ℕ
-unfolding reopening.anyLate reopening.oversized reopening.miscounted reopening.unreadable reopening.replay reopening.takeBackAll reopening.toPlay reopening.checkRefusal reopening.checksRefusal reopening.judged reopening.reopened reopening.settledRecord reopening.replayed reopening.reopenOf
+unfolding reopening.anyLate reopening.oversized reopening.miscounted reopening.unreadable reopening.replay reopening.takeBackAll reopening.toPlay reopening.checkRefusal reopening.checksRefusal reopening.reopened reopening.settledRecord reopening.replayed reopening.reopenOf
 of-reopen = 0
 
 unfoldable of-session : ℕ

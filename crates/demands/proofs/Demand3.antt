@@ -10,14 +10,14 @@ use Rattle.puzzle.specs.declared.Given.{Given}
 use Rattle.puzzle.specs.Refusals.{accepted}
 use Rattle.journal.specs.Limits.{journalBytes, checkMemory, recordBytes}
 use Rattle.journal.specs.Bytes.{over}
-use Rattle.journal.specs.StoredChecks.{judge}
+use Rattle.journal.specs.StoredChecks.{judge, judged}
 use Rattle.journal.proofs.Memory.{take-over-end}
 use Rattle.board.specs.Open.{Opened, openedFresh}
-use Rattle.record.specs.declared.Asked.{Asked}
+use Rattle.journal.specs.declared.Asked.{Asked}
 use Rattle.record.specs.Items.{recordOf}
 use Rattle.record.specs.Scan.{partsOfBytes}
 use Rattle.record.specs.Write.{Wrote, wrote}
-use Rattle.record.specs.Reopen.{judged, reopenOf}
+use Rattle.record.specs.Reopen.{reopenOf}
 use Rattle.record.proofs.WriteBack.{bytes-record, are-bytes}
 use Rattle.calls.specs.declared.Call.{Call}
 use Rattle.calls.specs.declared.Call.the-variants.{Make, Undo, Redo, Check}

@@ -21,10 +21,10 @@ use Rattle.journal.specs.Slots.{slotAt, bytesOf}
 use Rattle.journal.specs.Counts.{counts}
 use Rattle.journal.specs.State.{opening, withNotes}
 use Rattle.board.specs.declared.Board.{Board}
-use Rattle.board.specs.Board.{stateOf, boardOf, isBoard, moved}
+use Rattle.board.specs.Board.{stateOf, boardOf, isBoard, moved, lentTests}
 use Rattle.board.specs.declared.Answer.{Answer}
 use Rattle.board.specs.Open.{noChecks, noMoves, answer, openedFresh}
-use Rattle.play.specs.Play.{Played, played, playOf, recordMove, moveTests, lentTests, callTests, undoOf, undone, canTakeBack, slotRefusal}
+use Rattle.play.specs.Play.{Played, played, playOf, recordMove, moveTests, callTests, undoOf, undone, canTakeBack, slotRefusal}
 use Rattle.calls.specs.declared.Call.{Call}
 use Rattle.calls.specs.declared.Call.the-variants.{Undo}
 use Rattle.calls.specs.Session.{Session, called, callOf, answers, started}

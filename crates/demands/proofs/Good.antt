@@ -10,7 +10,7 @@ use lib.Dec.{eqb}
 use lib.ListN.{length, take, length-append}
 use lib.Seq.{take-all, length-take-le}
 use borrow.Author.Tests.{not-true, not-false, eqb-true, eqb-false}
-use Rattle.puzzle.specs.Givens.{isOn, givenCells}
+use Rattle.puzzle.specs.Givens.{isOn, givenCells, isGiven}
 use Rattle.sudoku.specs.Tests.{_⇒_, first, both, count}
 use Rattle.sudoku.proofs.Walks.{by-test, not-both-ways, passed, both-left, both-right}
 use Rattle.sudoku.proofs.Each.{Each, each-append}
@@ -21,7 +21,7 @@ use Rattle.puzzle.proofs.Puzzle.{digit-held}
 use Rattle.journal.specs.declared.Move.{Move}
 use Rattle.journal.specs.declared.Move.the-variants.{Place, Erase, WriteMark, StrikeMark}
 use Rattle.journal.specs.Limits.{maxMoves, maxChecks}
-use Rattle.journal.specs.State.{State, opening, isGiven, digitAt, holdsPlayersDigit}
+use Rattle.journal.specs.State.{State, opening, digitAt, holdsPlayersDigit}
 use Rattle.journal.specs.StoredChecks.{Stored, isRight, judge}
 use Rattle.journal.proofs.Moves.{Fit}
 use Rattle.play.specs.Play.{moveTests}
@@ -39,12 +39,12 @@ use Rattle.demands.proofs.OneLeft.{right-solves}
 -- one cell was to play
 pub record Admitted (givens : List Given) (solution : List ℕ) (c : Stored) : Type 0 where
   pub grid : onGrid (c .row) (c .column) ≡ true
-  pub free : isGiven (opening givens) (cellOf (c .row) (c .column)) ≡ false
+  pub free : isGiven (opening givens .given) (cellOf (c .row) (c .column)) ≡ false
   pub range : inRange (c .digit) ≡ true
   pub some : 1 ≤ c .standing
   pub few : c .standing ≤ maxMoves
   pub verdict : c .right ≡ isRight solution (cellOf (c .row) (c .column)) (c .digit)
-  pub unfinished : both (isRight solution (cellOf (c .row) (c .column)) (c .digit)) (eqb (count (λ cell. not (isGiven (opening givens) cell)) 81 1) 1) ≡ false
+  pub unfinished : both (isRight solution (cellOf (c .row) (c .column)) (c .digit)) (eqb (count (λ cell. not (isGiven (opening givens .given) cell)) 81 1) 1) ≡ false
 
 pub record Good (k : Book) : Type 0 where
   pub opens : Opens (k .givens) (k .solution)
@@ -127,7 +127,7 @@ module _ (k : Book) (g : Good k) where
   unfolding stateIn
   good-given = reached-given (k .givens) (k .solution) (g .opens) (take (k .standing) (k .moves)) standing-plays
 
-  pub good-is-given : (cell : ℕ) → isGiven (stateIn k) cell ≡ isGiven (opening (k .givens)) cell
+  pub good-is-given : (cell : ℕ) → isGiven (stateIn k .given) cell ≡ isGiven (opening (k .givens) .given) cell
   unfolding stateIn
   good-is-given cell = reached-is-given (k .givens) (k .solution) (g .opens) (take (k .standing) (k .moves)) standing-plays cell
 
@@ -176,7 +176,7 @@ module _ (k : Book) (g : Good k) where
   good-redo p = good-standing (k .standing + 1) (omega (arith, g .within, redo-some k p)) (λ s. redo-some k p (g .final s))
 
   module _ (row column : ℕ) (p : refusedBy k (Check row column) ≡ 0) where
-    free-cell : isGiven (opening (k .givens)) (cellOf row column) ≡ false
+    free-cell : isGiven (opening (k .givens) .given) (cellOf row column) ≡ false
     unfolding holdsPlayersDigit
     free-cell = sym (good-is-given (cellOf row column)) ∙ not-true _ (both-right _ _ (check-holds k row column p))
 
@@ -194,7 +194,7 @@ module _ (k : Book) (g : Good k) where
         (λ t. omega (arith, eqb-false (k .standing) 0 t))
 
     check-admitted : Admitted (k .givens) (k .solution) (checkIn k row column)
-    unfolding checkIn judge stateIn made isRight
+    unfolding checkIn stateIn made isRight
     check-admitted =
         record {
           grid = check-grid k row column p;
@@ -203,7 +203,7 @@ module _ (k : Book) (g : Good k) where
           some = after-move;
           few = omega (arith, g .within, g .few);
           verdict = refl;
-          unfinished = by-test (both (isRight (k .solution) (cellOf row column) (digitAt (stateIn k) (cellOf row column))) (eqb (count (λ cell. not (isGiven (opening (k .givens)) cell)) 81 1) 1))
+          unfinished = by-test (both (isRight (k .solution) (cellOf row column) (digitAt (stateIn k) (cellOf row column))) (eqb (count (λ cell. not (isGiven (opening (k .givens) .given) cell)) 81 1) 1))
               (λ t. absurd (not-both-ways (isOn (stateIn k .solved))
               (right-solves (k .givens) (k .solution) (g .opens) (eqb-true _ _ (both-right _ _ t)) (take (k .standing) (k .moves)) standing-plays
               (cellOf row column) (cell-of-is-cell row column (check-grid k row column p)) free-cell (sym (eqb-true _ _ (both-left _ _ t))))

@@ -3,17 +3,17 @@
 -- Assumes nothing.
 use Prim.Native.Nat.{ℕ, _+_, _*_, _≤_, _<_}
 use mathlib.Core.Path.{_≡_, refl, sym, ap, _∙_}
-use mathlib.Core.Bool.{true, not}
+use mathlib.Core.Bool.{Bool, true, not}
 use mathlib.Core.List.{List, [], _∷_, _++_, append-assoc}
 use native.Mathlib.Omega.{arith}
 use lib.ListN.{length, take, drop, length-append}
 use lib.Seq.{take-at, take-take, length-take-le}
 use lib.Dec.{eqb}
 use borrow.Author.Tests.{le-leb, eqb-true}
-use Rattle.sudoku.specs.Tests.{both}
-use Rattle.puzzle.specs.Givens.{isSet}
+use Rattle.sudoku.specs.Tests.{Test, _⇒_, first, both}
+use Rattle.puzzle.specs.Givens.{isGiven}
 use Rattle.puzzle.specs.Puzzle.{isFull, isConsistent}
-use Rattle.sudoku.proofs.Walks.{by-test, both-true, every-of, bit-le}
+use Rattle.sudoku.proofs.Walks.{bit-le, both-true, by-test, every-of, no-if, not-is-false}
 use Rattle.sudoku.specs.Grid.{inRange, isCell, at}
 use Rattle.sudoku.proofs.Grid.{is-cell}
 use Rattle.journal.specs.declared.Move.{Move}
@@ -21,12 +21,12 @@ use Rattle.journal.specs.declared.Counts.{Counts}
 use Rattle.journal.specs.Limits.{maxMoves, maxChecks, slotBytes, checkBytes, journalBytes, checkMemory}
 use Rattle.journal.specs.Counts.{counts}
 use Rattle.journal.specs.Bytes.{over}
-use Rattle.journal.specs.State.{State, opening, isGiven, digitAt, noteAt}
+use Rattle.journal.specs.State.{State, opening, digitAt, noteAt}
 use Rattle.journal.specs.Slots.{slotFor, bytesOf, slotAt}
 use Rattle.journal.specs.StoredChecks.{Stored, storedBytes, storedAll}
 use Rattle.journal.proofs.Moves.{Fit}
 use Rattle.journal.proofs.Memory.{length-over, take-over-end}
-use Rattle.board.specs.Board.{boardOf, isBoard, digitValue, noteValue, solutionValue}
+use Rattle.board.specs.Board.{boardOf, isBoard, lentTests, digitValue, noteValue, solutionValue}
 use Rattle.calls.specs.declared.Call.the-variants.{Make, Check}
 use Rattle.demands.specs.Book.{Book, made, performAll, stateIn, slotsFrom, slotsIn, taken, withMoves, checkIn}
 use Rattle.demands.specs.Demand3.{boardIn}
@@ -38,7 +38,7 @@ use Rattle.demands.proofs.Slots.{journal-slot}
 
 module _ (s : State) (solution : List ℕ) (c : Counts) (n : ℕ) (f : Fit s) (digits : (cell : ℕ) → isCell cell ≡ true → inRange (at solution cell) ≡ true) where
   pub fit-board : c .made ≤ maxMoves → c .standing ≤ c .made → n ≤ maxChecks → isBoard (boardOf s solution c n) ≡ true
-  unfolding isBoard boardOf digitValue noteValue solutionValue digitAt noteAt isGiven isSet
+  unfolding isBoard boardOf digitValue noteValue solutionValue digitAt noteAt isGiven
   fit-board a b d =
       both-true _ _ (le-leb (c .made) maxMoves a)
       (both-true _ _ (le-leb (c .standing) (c .made) b)
@@ -59,6 +59,12 @@ pub good-board : (k : Book) → Good k → isBoard (boardIn k) ≡ true
 unfolding boardIn
 good-board k g =
     fit-board (stateIn k) (k .solution) (counts (made k) (k .standing)) (length (k .checks)) (good-fit k g) (g .opens .digits) (g .few) (g .within) (g .fewChecks)
+
+-- so 1 and 2 do not apply where what is lent has its length
+pub lent-passed : (k : Book) → Good k → (fits : Bool) → fits ≡ true → (ts : List Test) → first (lentTests fits (boardIn k) ts) ≡ first ts
+unfolding lentTests
+lent-passed k g fits e ts =
+    no-if (not fits) 1 _ (not-is-false fits e) ∙ no-if (not (isBoard (boardIn k))) 2 ts (not-is-false (isBoard (boardIn k)) (good-board k g))
 
 -- ---- slots of moves
 

@@ -10,7 +10,7 @@ use lib.Dec.{eqb}
 use lib.ListN.{length, length-append}
 use borrow.Author.Tests.{eq-eqb, ne-eqb}
 use Rattle.journal.proofs.Moves.{flag-off}
-use Rattle.puzzle.specs.Givens.{isOn}
+use Rattle.puzzle.specs.Givens.{isOn, isGiven}
 use Rattle.puzzle.proofs.Puzzle.{settled-fresh}
 use Rattle.sudoku.specs.Tests.{both, bit}
 use Rattle.sudoku.proofs.Walks.{pick-false, not-is-false}
@@ -21,7 +21,7 @@ use Rattle.note.proofs.Note.{contains-with, contains-without}
 use Rattle.puzzle.specs.Puzzle.{holdsDigit, isFull, isConsistent, settled}
 use Rattle.journal.specs.declared.Move.{Move}
 use Rattle.journal.specs.declared.Move.the-variants.{Place, WriteMark, StrikeMark}
-use Rattle.journal.specs.State.{State, isGiven, digitAt, noteAt, withNotes, putDigit, writeAt, strikeAt, perform}
+use Rattle.journal.specs.State.{State, digitAt, noteAt, withNotes, putDigit, writeAt, strikeAt, perform}
 use Rattle.demands.specs.Book.{performAll}
 use Rattle.demands.proofs.Plays.{Passes, Plays, perform-append, plays-append}
 use Rattle.demands.proofs.Refusals.{place-pass, write-pass, strike-pass}
@@ -77,7 +77,7 @@ module _ (row column : ℕ) where
 -- a cell as the fresh position has it: no given, no digit, no mark 1, in a state that is not solved
 pub record Clear (s : State) (cell : ℕ) : Type 0 where
   pub unsolved : isOn (s .solved) ≡ false
-  pub free : isGiven s cell ≡ false
+  pub free : isGiven (s .given) cell ≡ false
   pub empty : digitAt s cell ≡ 0
   pub blank : contains (noteAt s cell) 1 ≡ false
   pub digits-81 : length (s .digits) ≡ 81
@@ -89,7 +89,7 @@ module _ (s : State) (row column digit n : ℕ) (on : onGrid row column ≡ true
   before-digit = withNotes s (performAll s (turns row column n false) .notes)
 
   digit-passes : Passes before-digit (Place row column digit)
-  unfolding before-digit withNotes isGiven digitAt
+  unfolding before-digit withNotes digitAt
   digit-passes =
       place-pass before-digit row column digit on (clear .unsolved) (clear .free) range
       (ne-eqb (at (s .digits) (cellOf row column)) digit (λ e. omega (arith, range-from digit range, clear .empty)))
@@ -114,9 +114,9 @@ module _ (s : State) (row column digit n : ℕ) (on : onGrid row column ≡ true
       ap (λ (t : State). at (t .digits) (cellOf row column)) line-end
       ∙ at-put (before-digit .digits) (cellOf row column) digit (clear .digits-81) (cell-of-is-cell row column on)
 
-  pub line-free : isGiven (performAll s (line row column digit n)) (cellOf row column) ≡ false
-  unfolding isGiven perform withNotes putDigit before-digit
-  line-free = ap (λ (t : State). isGiven t (cellOf row column)) line-end ∙ clear .free
+  pub line-free : isGiven (performAll s (line row column digit n) .given) (cellOf row column) ≡ false
+  unfolding perform withNotes putDigit before-digit
+  line-free = ap (λ (t : State). isGiven (t .given) (cellOf row column)) line-end ∙ clear .free
 
   -- whether the digit solves the board: all other cells are as they were
   pub line-solved : performAll s (line row column digit n) .solved

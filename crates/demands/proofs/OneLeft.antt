@@ -14,14 +14,14 @@ use Rattle.sudoku.proofs.Counting.{count-zero, count-apart, count-alone}
 use Rattle.sudoku.specs.Grid.{inRange, isCell, at, put}
 use Rattle.sudoku.proofs.Grid.{cell-from, cell-to, is-cell, range-from, range-to, at-put, at-put-other}
 use Rattle.puzzle.specs.declared.Given.{Given}
-use Rattle.puzzle.specs.Givens.{isOn, digitsOf}
+use Rattle.puzzle.specs.Givens.{isOn, digitsOf, isGiven}
 use Rattle.puzzle.specs.Puzzle.{isFull, isConsistent}
 use Rattle.puzzle.specs.EachOnce.{Row, unitOf, inUnit, timesHeld, EachOnce}
 use Rattle.puzzle.proofs.Givens.{length-digits-of}
 use Rattle.puzzle.proofs.EachOnce.{unit-in-range, unit-peers, each-once}
 use Rattle.puzzle.proofs.Puzzle.{full-exactly, consistent-exactly}
 use Rattle.journal.specs.declared.Move.{Move}
-use Rattle.journal.specs.State.{opening, isGiven, digitAt}
+use Rattle.journal.specs.State.{opening, digitAt}
 use Rattle.board.specs.Board.{stateOf, boardOf, fresh}
 use Rattle.record.specs.Reopen.{toPlay}
 use Rattle.record.proofs.Givens.{to-play}
@@ -34,31 +34,31 @@ use Rattle.demands.proofs.Reached.{reached-fit, reached-digit}
 module _ (gs : List Given) (solution : List ℕ) (o : Opens gs solution) where
   -- the cells that are no givens
   free : ℕ → Bool
-  free cell = not (isGiven (opening gs) cell)
+  free cell = not (isGiven (opening gs .given) cell)
 
-  free-of : (cell : ℕ) → isGiven (opening gs) cell ≡ false → free cell ≡ true
+  free-of : (cell : ℕ) → isGiven (opening gs .given) cell ≡ false → free cell ≡ true
   unfolding free
   free-of cell p = ap not p
 
-  of-free : (cell : ℕ) → free cell ≡ true → isGiven (opening gs) cell ≡ false
+  of-free : (cell : ℕ) → free cell ≡ true → isGiven (opening gs .given) cell ≡ false
   unfolding free
-  of-free cell p = not-true (isGiven (opening gs) cell) p
+  of-free cell p = not-true (isGiven (opening gs .given) cell) p
 
   -- together with the givens they are all
-  pub cells-to-play : count (λ cell. not (isGiven (opening gs) cell)) 81 1 + length gs ≡ 81
+  pub cells-to-play : count (λ cell. not (isGiven (opening gs .given) cell)) 81 1 + length gs ≡ 81
   unfolding toPlay stateOf fresh boardOf opening
   cells-to-play = to-play gs (opens-grid gs solution o) (opens-rising gs solution o) (fresh gs solution) refl
 
   -- ---- one cell to play, and the right digit there
 
-  module _ (one : count (λ cell. not (isGiven (opening gs) cell)) 81 1 ≡ 1) where
-    only-one : (a b : ℕ) → isCell a ≡ true → isCell b ≡ true → isGiven (opening gs) a ≡ false → isGiven (opening gs) b ≡ false → a ≡ b
+  module _ (one : count (λ cell. not (isGiven (opening gs .given) cell)) 81 1 ≡ 1) where
+    only-one : (a b : ℕ) → isCell a ≡ true → isCell b ≡ true → isGiven (opening gs .given) a ≡ false → isGiven (opening gs .given) b ≡ false → a ≡ b
     unfolding free
     only-one a b pa pb fa fb =
         count-alone free 81 1 a b (omega (arith, one)) (cell-from a pa) (omega (arith, cell-to a pa)) (cell-from b pb) (omega (arith, cell-to b pb))
         (free-of a fa) (free-of b fb)
 
-    pub right-solves : (ms : List Move) → Plays (opening gs) ms → (cell : ℕ) → isCell cell ≡ true → isGiven (opening gs) cell ≡ false
+    pub right-solves : (ms : List Move) → Plays (opening gs) ms → (cell : ℕ) → isCell cell ≡ true → isGiven (opening gs .given) cell ≡ false
         → digitAt (performAll (opening gs) ms) cell ≡ at solution cell → isOn (performAll (opening gs) ms .solved) ≡ true
     unfolding digitAt bit
     right-solves ms p cell is f e =
@@ -70,12 +70,12 @@ module _ (gs : List Given) (solution : List ℕ) (o : Opens gs solution) where
       where
         same : (c : ℕ) → isCell c ≡ true → at (performAll (opening gs) ms .digits) c ≡ at solution c
         same c pc =
-            by-test (isGiven (opening gs) c) (λ t. reached-digit gs solution o ms p c pc t)
+            by-test (isGiven (opening gs .given) c) (λ t. reached-digit gs solution o ms p c pc t)
             (λ t. ap (λ (x : ℕ). at (performAll (opening gs) ms .digits) x) (only-one c cell pc is t f) ∙ e ∙ ap (at solution) (only-one cell c is pc f t))
 
   -- ---- a digit placed on the fresh position
 
-  module _ (cell d : ℕ) (is : isCell cell ≡ true) (f : isGiven (opening gs) cell ≡ false) (range : inRange d ≡ true)
+  module _ (cell d : ℕ) (is : isCell cell ≡ true) (f : isGiven (opening gs .given) cell ≡ false) (range : inRange d ≡ true)
       (solved : both (isFull (put (digitsOf gs) cell d)) (isConsistent (put (digitsOf gs) cell d)) ≡ true) where
     here : at (put (digitsOf gs) cell d) cell ≡ d
     here = at-put (digitsOf gs) cell d (length-digits-of gs) is
@@ -84,10 +84,10 @@ module _ (gs : List Given) (solution : List ℕ) (o : Opens gs solution) where
     elsewhere c pc ne = at-put-other (digitsOf gs) cell c d is pc ne
 
     -- each other cell is a given, for it holds a digit
-    given-elsewhere : (c : ℕ) → isCell c ≡ true → (cell ≡ c → ⊥) → isGiven (opening gs) c ≡ true
+    given-elsewhere : (c : ℕ) → isCell c ≡ true → (cell ≡ c → ⊥) → isGiven (opening gs .given) c ≡ true
     unfolding opening digitAt
     given-elsewhere c pc ne =
-        by-test (isGiven (opening gs) c) (λ t. t)
+        by-test (isGiven (opening gs .given) c) (λ t. t)
         (λ t. absurd (full-exactly (put (digitsOf gs) cell d) .0 (both-left (isFull (put (digitsOf gs) cell d)) (isConsistent (put (digitsOf gs) cell d)) solved) c pc
         (elsewhere c pc ne ∙ opening-free gs solution o c pc t)))
 
@@ -96,9 +96,9 @@ module _ (gs : List Given) (solution : List ℕ) (o : Opens gs solution) where
     digit-elsewhere c pc ne = elsewhere c pc ne ∙ opening-digit gs solution o c pc (given-elsewhere c pc ne)
 
     is-free : (c : ℕ) → isCell c ≡ true → free c ≡ true → cell ≡ c
-    is-free c pc t = by-test (eqb cell c) (λ u. eqb-true cell c u) (λ u. absurd (not-both-ways (isGiven (opening gs) c) (given-elsewhere c pc (eqb-false cell c u)) (of-free c t)))
+    is-free c pc t = by-test (eqb cell c) (λ u. eqb-true cell c u) (λ u. absurd (not-both-ways (isGiven (opening gs .given) c) (given-elsewhere c pc (eqb-false cell c u)) (of-free c t)))
 
-    pub solves-one : count (λ c. not (isGiven (opening gs) c)) 81 1 ≡ 1
+    pub solves-one : count (λ c. not (isGiven (opening gs .given) c)) 81 1 ≡ 1
     unfolding free
     solves-one =
         omega (

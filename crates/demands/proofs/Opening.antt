@@ -12,14 +12,14 @@ use Rattle.sudoku.proofs.Walks.{both-true, pick-true}
 use Rattle.sudoku.proofs.Each.{Each, each-at, each-of}
 use Rattle.puzzle.specs.declared.Given.{Given}
 use Rattle.puzzle.specs.Refusals.{accepted}
-use Rattle.puzzle.specs.Givens.{given, triples, ascending}
+use Rattle.puzzle.specs.Givens.{given, triples, ascending, isGiven}
 use Rattle.puzzle.specs.Vouch.{wellPosed}
 use Rattle.puzzle.proofs.Accepted.{accepts}
 use Rattle.puzzle.proofs.Order.{ascends-at, ascends-of}
 use Rattle.puzzle.proofs.Givens.{OnGrid, Matches, Rising, marked, given-at, given-digit, free-digit}
 use Rattle.puzzle.proofs.Posed.{Vouched, posed, vouched-rising}
 use Rattle.journal.specs.Limits.{journalBytes, checkMemory}
-use Rattle.journal.specs.State.{opening, isGiven, digitAt, noteAt}
+use Rattle.journal.specs.State.{opening, digitAt, noteAt}
 use Rattle.journal.proofs.Moves.{Fit, fit-opening, empty-note}
 use Rattle.board.specs.Open.{lentLengths, openOf, openedFresh}
 use Rattle.demands.specs.Opens.{Opens, nth}
@@ -72,16 +72,16 @@ module _ (gs : List Given) (solution : List ℕ) (o : Opens gs solution) where
   opens-rising = vouched-rising gs solution (opens-ascending gs solution o) (opens-vouched gs solution o)
 
   -- in the fresh state: a cell is a given's exactly where one stands, holds then the solution's digit, and else none
-  pub opening-given : (cell : ℕ) → isCell cell ≡ true → isGiven (opening gs) cell ≡ marked gs cell
-  unfolding opening isGiven
+  pub opening-given : (cell : ℕ) → isCell cell ≡ true → isGiven (opening gs .given) cell ≡ marked gs cell
+  unfolding opening
   opening-given cell q = given-at gs cell opens-grid q
 
-  pub opening-digit : (cell : ℕ) → isCell cell ≡ true → isGiven (opening gs) cell ≡ true → digitAt (opening gs) cell ≡ at solution cell
+  pub opening-digit : (cell : ℕ) → isCell cell ≡ true → isGiven (opening gs .given) cell ≡ true → digitAt (opening gs) cell ≡ at solution cell
   unfolding opening digitAt
   opening-digit cell q t =
       given-digit solution gs opens-grid opens-rising opens-match cell q (sym (opening-given cell q) ∙ t)
 
-  pub opening-free : (cell : ℕ) → isCell cell ≡ true → isGiven (opening gs) cell ≡ false → digitAt (opening gs) cell ≡ 0
+  pub opening-free : (cell : ℕ) → isCell cell ≡ true → isGiven (opening gs .given) cell ≡ false → digitAt (opening gs) cell ≡ 0
   unfolding opening digitAt
   opening-free cell q t = free-digit gs opens-grid opens-rising cell q (sym (opening-given cell q) ∙ t)
 

@@ -9,7 +9,7 @@ use lib.Dec.{ltb}
 use lib.ListN.{length, take}
 use lib.Seq.{take-all}
 use borrow.Author.Tests.{ltb-true, ltb-false}
-use Rattle.puzzle.specs.Givens.{isOn, isSet}
+use Rattle.puzzle.specs.Givens.{isOn, isGiven}
 use Rattle.sudoku.proofs.Walks.{by-test, not-both-ways}
 use Rattle.sudoku.specs.Grid.{onGrid, cellOf, isCell, at, put}
 use Rattle.sudoku.proofs.Grid.{at-put-other, cell-of-is-cell}
@@ -17,7 +17,7 @@ use Rattle.puzzle.specs.declared.Given.{Given}
 use Rattle.puzzle.specs.Givens.{givenCells}
 use Rattle.journal.specs.declared.Move.{Move}
 use Rattle.journal.specs.declared.Move.the-variants.{Place, Erase, WriteMark, StrikeMark}
-use Rattle.journal.specs.State.{State, opening, isGiven, digitAt, withNotes, putDigit, perform}
+use Rattle.journal.specs.State.{State, opening, digitAt, withNotes, putDigit, perform}
 use Rattle.journal.proofs.Moves.{Fit, Allowed, fit-perform, given-kept}
 use Rattle.demands.specs.Book.{performAll}
 use Rattle.demands.specs.Opens.{Opens}
@@ -45,11 +45,11 @@ given-all s [] = refl
 given-all s (m ∷ ms) = given-all (perform s m) ms ∙ given-kept s m
 
 -- no move goes to a given, so its digit stays
-module _ (s : State) (cell : ℕ) (is : isCell cell ≡ true) (g : isGiven s cell ≡ true) where
-  other-cell : (row column d : ℕ) → onGrid row column ≡ true → isGiven s (cellOf row column) ≡ false → at (put (s .digits) (cellOf row column) d) cell ≡ at (s .digits) cell
+module _ (s : State) (cell : ℕ) (is : isCell cell ≡ true) (g : isGiven (s .given) cell ≡ true) where
+  other-cell : (row column d : ℕ) → onGrid row column ≡ true → isGiven (s .given) (cellOf row column) ≡ false → at (put (s .digits) (cellOf row column) d) cell ≡ at (s .digits) cell
   other-cell row column d on free =
       at-put-other (s .digits) (cellOf row column) cell d (cell-of-is-cell row column on) is
-      (λ e. not-both-ways (isGiven s cell) g (ap (λ (c : ℕ). isGiven s c) (sym e) ∙ free))
+      (λ e. not-both-ways (isGiven (s .given) cell) g (ap (λ (c : ℕ). isGiven (s .given) c) (sym e) ∙ free))
 
   digit-kept : (m : Move) → Allowed s m → digitAt (perform s m) cell ≡ digitAt s cell
   unfolding digitAt perform withNotes putDigit
@@ -58,11 +58,11 @@ module _ (s : State) (cell : ℕ) (is : isCell cell ≡ true) (g : isGiven s cel
   digit-kept (WriteMark row column digit) a = refl
   digit-kept (StrikeMark row column digit) a = refl
 
-pub digits-kept : (s : State) (ms : List Move) (cell : ℕ) → isCell cell ≡ true → isGiven s cell ≡ true → Plays s ms → digitAt (performAll s ms) cell ≡ digitAt s cell
-unfolding performAll Plays isGiven
+pub digits-kept : (s : State) (ms : List Move) (cell : ℕ) → isCell cell ≡ true → isGiven (s .given) cell ≡ true → Plays s ms → digitAt (performAll s ms) cell ≡ digitAt s cell
+unfolding performAll Plays
 digits-kept s [] cell is g p = refl
 digits-kept s (m ∷ ms) cell is g p =
-    digits-kept (perform s m) ms cell is (ap (λ (l : List ℕ). isSet l cell) (given-kept s m) ∙ g) (p .1)
+    digits-kept (perform s m) ms cell is (ap (λ (l : List ℕ). isGiven l cell) (given-kept s m) ∙ g) (p .1)
     ∙ digit-kept s cell is g m (passes-allowed s m (p .0))
 
 -- ---- from the opening
@@ -75,9 +75,8 @@ module _ (gs : List Given) (solution : List ℕ) (o : Opens gs solution) (ms : L
   unfolding opening
   reached-given = given-all (opening gs) ms
 
-  pub reached-is-given : (cell : ℕ) → isGiven (performAll (opening gs) ms) cell ≡ isGiven (opening gs) cell
-  unfolding isGiven
-  reached-is-given cell = ap (λ (l : List ℕ). isSet l cell) (given-all (opening gs) ms)
+  pub reached-is-given : (cell : ℕ) → isGiven (performAll (opening gs) ms .given) cell ≡ isGiven (opening gs .given) cell
+  reached-is-given cell = ap (λ (l : List ℕ). isGiven l cell) (given-all (opening gs) ms)
 
-  pub reached-digit : (cell : ℕ) → isCell cell ≡ true → isGiven (opening gs) cell ≡ true → digitAt (performAll (opening gs) ms) cell ≡ at solution cell
+  pub reached-digit : (cell : ℕ) → isCell cell ≡ true → isGiven (opening gs .given) cell ≡ true → digitAt (performAll (opening gs) ms) cell ≡ at solution cell
   reached-digit cell is g = digits-kept (opening gs) ms cell is g plays ∙ opening-digit gs solution o cell is g

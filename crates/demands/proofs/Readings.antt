@@ -16,11 +16,11 @@ use Rattle.sudoku.proofs.Listed.{length-listed, listed-at}
 use Rattle.sudoku.proofs.Walks.{by-test, not-is-false, pick-true, pick-false, run-last}
 use Rattle.puzzle.specs.declared.Refusal.{Refusal}
 use Rattle.puzzle.specs.Refusals.{refusal, accepted}
-use Rattle.puzzle.specs.Givens.{digitsOf}
+use Rattle.puzzle.specs.Givens.{digitsOf, isGiven}
 use Rattle.puzzle.proofs.Accepted.{accepts, if-not, or-else-of}
 use Rattle.journal.specs.declared.Move.{Move}
 use Rattle.journal.specs.Limits.{journalBytes}
-use Rattle.journal.specs.State.{State, opening, isGiven, digitAt, perform, performAgain, struck}
+use Rattle.journal.specs.State.{State, opening, digitAt, perform, performAgain, struck}
 use Rattle.journal.specs.Slots.{slotFor, slotAt, moveOf}
 use Rattle.journal.proofs.Moves.{performed-again, move-kept}
 use Rattle.board.specs.Board.{stateOf, boardOf}
@@ -56,10 +56,10 @@ listed-cells f l e h =
 
 module _ (k : Book) (g : Good k) where
   -- what the board holds at a given is what the opening held there
-  given-kept : (cell : ℕ) → isCell cell ≡ true → pick (isGiven (stateIn k) cell) (at (stateIn k .digits) cell) 0 ≡ at (digitsOf (k .givens)) cell
+  given-kept : (cell : ℕ) → isCell cell ≡ true → pick (isGiven (stateIn k .given) cell) (at (stateIn k .digits) cell) 0 ≡ at (digitsOf (k .givens)) cell
   unfolding stateIn digitAt opening
   given-kept cell is =
-      by-test (isGiven (opening (k .givens)) cell)
+      by-test (isGiven (opening (k .givens) .given) cell)
       (λ t.
       pick-true _ _ _ (good-is-given k g cell ∙ t)
       ∙ reached-digit (k .givens) (k .solution) (g .opens) (take (k .standing) (k .moves)) (standing-plays k g) cell is t
@@ -79,7 +79,7 @@ module _ (k : Book) (g : Good k) where
       record {
         given = same-given i;
         digits =
-            listed-cells (λ (cell : ℕ). pick (isGiven (stateIn k) cell) (at (stateIn k .digits) cell) 0) (digitsOf (k .givens))
+            listed-cells (λ (cell : ℕ). pick (isGiven (stateIn k .given) cell) (at (stateIn k .digits) cell) 0) (digitsOf (k .givens))
             (opening-fit (k .givens) (k .solution) (g .opens) .digits-81) given-kept i;
         notes = replicate 81 0;
         solved = 0;

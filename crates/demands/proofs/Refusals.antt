@@ -7,7 +7,7 @@ use mathlib.Core.List.{List, [], _∷_, _++_}
 use lib.Dec.{eqb}
 use lib.ListN.{length}
 use borrow.Author.Tests.{not-true, not-false, eqb-true, eqb-false, eq-eqb}
-use Rattle.puzzle.specs.Givens.{isOn}
+use Rattle.puzzle.specs.Givens.{isOn, isGiven}
 use Rattle.sudoku.specs.Tests.{Test, _⇒_, first, pick, both, either}
 use Rattle.sudoku.proofs.Walks.{by-test, passed, no-if, first-none, both-left, both-right, not-is-false, pick-true, pick-false}
 use Rattle.sudoku.specs.Grid.{inRange, onGrid, cellOf}
@@ -16,7 +16,7 @@ use Rattle.puzzle.specs.Puzzle.{holdsDigit}
 use Rattle.journal.specs.declared.Move.{Move}
 use Rattle.journal.specs.declared.Move.the-variants.{Place, Erase, WriteMark, StrikeMark}
 use Rattle.journal.specs.Limits.{maxMoves, maxChecks}
-use Rattle.journal.specs.State.{State, isGiven, digitAt, noteAt, holdsPlayersDigit, acceptsMarks, rowIn, columnIn, digitIn, target}
+use Rattle.journal.specs.State.{State, digitAt, noteAt, holdsPlayersDigit, acceptsMarks, rowIn, columnIn, digitIn, target}
 use Rattle.journal.proofs.Moves.{Allowed}
 use Rattle.play.specs.Play.{moveTests}
 use Rattle.calls.specs.declared.Call.{Call}
@@ -88,13 +88,13 @@ passes-allowed s (WriteMark row column digit) p = write-passes s row column digi
 passes-allowed s (StrikeMark row column digit) p = strike-passes s row column digit p
 
 -- what passes: a digit put where no given and not this digit stands, a mark written where it is absent, a mark struck where it stands
-pub place-pass : (s : State) (row column digit : ℕ) → onGrid row column ≡ true → isOn (s .solved) ≡ false → isGiven s (cellOf row column) ≡ false
+pub place-pass : (s : State) (row column digit : ℕ) → onGrid row column ≡ true → isOn (s .solved) ≡ false → isGiven (s .given) (cellOf row column) ≡ false
     → inRange digit ≡ true → eqb (digitAt s (cellOf row column)) digit ≡ false → Passes s (Place row column digit)
 unfolding Passes moveTests
 place-pass s row column digit on unsolved free range other =
     no-if (not (onGrid row column)) 3 _ (not-is-false (onGrid row column) on)
     ∙ no-if (isOn (s .solved)) 4 _ unsolved
-    ∙ no-if (isGiven s (cellOf row column)) 5 _ free
+    ∙ no-if (isGiven (s .given) (cellOf row column)) 5 _ free
     ∙ no-if (not (inRange digit)) 8 _ (not-is-false (inRange digit) range)
     ∙ no-if (eqb (digitAt s (cellOf row column)) digit) 9 [] other
     ∙ first-none

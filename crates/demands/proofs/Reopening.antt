@@ -22,17 +22,17 @@ use Rattle.journal.specs.declared.Move.{Move}
 use Rattle.journal.specs.Limits.{slotBytes, journalBytes, checkMemory}
 use Rattle.journal.specs.Counts.{counts}
 use Rattle.journal.specs.Bytes.{over}
-use Rattle.journal.specs.State.{State, opening, isGiven}
-use Rattle.journal.specs.StoredChecks.{Stored, judge, storedAll}
+use Rattle.journal.specs.State.{State, opening}
+use Rattle.journal.specs.StoredChecks.{Stored, judge, storedAll, judged}
 use Rattle.journal.proofs.Memory.{length-over, take-over-end}
 use Rattle.board.specs.declared.Board.{Board}
 use Rattle.board.specs.Board.{stateOf, countsOf, boardOf, fresh}
 use Rattle.board.specs.Open.{answer, noMoves, noChecks, turnedAway}
 use Rattle.play.specs.Play.{Played, played}
-use Rattle.record.specs.declared.Asked.{Asked}
+use Rattle.journal.specs.declared.Asked.{Asked}
 use Rattle.record.specs.Items.{Parts}
 use Rattle.record.specs.Scan.{partsOfBytes}
-use Rattle.record.specs.Reopen.{replay, takeBackAll, toPlay, checksRefusal, judged, reopened, settledRecord, replayed, reopenOf}
+use Rattle.record.specs.Reopen.{replay, takeBackAll, toPlay, checksRefusal, reopened, settledRecord, replayed, reopenOf}
 use Rattle.record.proofs.ReadBack.{CheckFits, record-formed, record-parts}
 use Rattle.record.proofs.Readable.{InTime, Sized, Counted, Readable, readable-of}
 use Rattle.demands.specs.Book.{Book, made, performAll, stateIn, withMoves, slotsIn, asked, partsOfBook, recordIn}
@@ -50,13 +50,13 @@ use Rattle.demands.proofs.Asks.{Asks, admits-all}
 module _ (givens : List Given) (solution : List ℕ) where
   -- reopening asks no more of it
   pub admitted-asks : (c : Stored) → Admitted givens solution c → Asks (givenCells givens) solution (asked c)
-  unfolding asked opening isGiven
+  unfolding asked opening
   admitted-asks c a =
       record { grid = a .grid; free = a .free; range = a .range; some = λ e. omega (arith, a .some, e); unfinished = a .unfinished }
 
   -- and judges it as it was judged
   judged-same : (cs : List Stored) → Each (Admitted givens solution) cs → map (judged solution) (map asked cs) ≡ cs
-  unfolding Each judged judge asked
+  unfolding Each asked
   judged-same [] h = refl
   judged-same (c ∷ cs) h =
       λ i.

@@ -12,7 +12,7 @@ use Rattle.puzzle.specs.Refusals.{accepted, firstRefused}
 use Rattle.journal.specs.declared.Move.{Move}
 use Rattle.journal.specs.declared.Slot.{Slot}
 use Rattle.journal.specs.Limits.{slotBytes}
-use Rattle.journal.specs.State.{State, isGiven, perform}
+use Rattle.journal.specs.State.{State, perform}
 use Rattle.journal.specs.Slots.{slotFor, bytesOf, slotAt, moveOf, isSound}
 use Rattle.journal.proofs.Moves.{Fit, fit-perform, given-kept, mask-small, move-kept, slot-sound}
 use Rattle.journal.proofs.Memory.{slotsBytes}
@@ -56,8 +56,8 @@ made-at s (m ∷ ms) zero h = refl
 made-at s (m ∷ ms) (suc i) h = made-at (perform s m) ms i (le-of-suc-le-suc h)
 
 -- soundness asks of a state only which cells are givens
-pub sound-given : (s t : State) (slot : Slot) → s .given ≡ t .given → isSound s slot ≡ isSound t slot
-unfolding isSound isGiven
+pub sound-given : (s t : State) (slot : Slot) → s .given ≡ t .given → isSound (s .given) slot ≡ isSound (t .given) slot
+unfolding isSound
 sound-given s t slot e = rw e
 
 pub made-sound : (t s : State) (ms : List Move) → Fit s → Plays s ms → s .given ≡ t .given → Each (SlotSound t) (slotsMade s ms)
@@ -81,6 +81,6 @@ module _ (journal : List ℕ) (s : State) (ms : List Move) (begins : take (slotB
   pub journal-moves : movesOf journal (length ms) ≡ ms
   journal-moves = moves-held journal (slotsMade s ms) (length ms) (made-length s ms) (made-fit s ms) begins-made ∙ made-moves s ms
 
-  pub journal-sound : (t : State) → Fit s → Plays s ms → s .given ≡ t .given → firstRefused (unsoundSlot t journal) (length ms) 1 ≡ accepted
+  pub journal-sound : (t : State) → Fit s → Plays s ms → s .given ≡ t .given → firstRefused (unsoundSlot (t .given) journal) (length ms) 1 ≡ accepted
   journal-sound t f p e =
       slots-sound journal (slotsMade s ms) (length ms) (made-length s ms) (made-fit s ms) begins-made t (made-sound t s ms f p e)

@@ -19,14 +19,14 @@ use Rattle.journal.specs.declared.Move.{Move}
 use Rattle.journal.specs.Limits.{maxMoves, slotBytes, checkBytes, journalBytes, checkMemory}
 use Rattle.journal.specs.Counts.{counts, recorded, takenBack, retaken}
 use Rattle.journal.specs.Bytes.{over}
-use Rattle.journal.specs.State.{State, opening, isGiven, perform, performAgain, takeBack, before, struck, standsAsLeft, standsAsFound}
+use Rattle.journal.specs.State.{State, opening, perform, performAgain, takeBack, before, struck, standsAsLeft, standsAsFound}
 use Rattle.journal.specs.Slots.{slotFor, bytesOf, slotAt, moveOf, isSound}
 use Rattle.journal.specs.StoredChecks.{storedBytes}
 use Rattle.journal.proofs.Moves.{Fit, Allowed, given-kept, performed-again, taken-back, stands-left, stands-found, slot-sound, move-kept}
 use Rattle.board.specs.declared.Answer.{Answer}
-use Rattle.board.specs.Board.{stateOf, countsOf, boardOf, moved, isBoard}
+use Rattle.board.specs.Board.{stateOf, countsOf, boardOf, moved, isBoard, lentTests}
 use Rattle.board.specs.Open.{answer}
-use Rattle.play.specs.Play.{Played, played, lentTests, callTests, recordMove, playOf, slotRefusal, canTakeBack, undoTests, undone, undoOf, canRetake, redoTests, redone, redoOf}
+use Rattle.play.specs.Play.{Played, played, callTests, recordMove, playOf, slotRefusal, canTakeBack, undoBefore, undoTests, undone, undoOf, canRetake, redoBefore, redoTests, redone, redoOf}
 use Rattle.play.specs.Check.{CheckPlayed, checkTests, checkOn, checked, withCheck, checkOf}
 use Rattle.calls.specs.declared.Call.{Call}
 use Rattle.calls.specs.declared.Call.the-variants.{Make, Undo, Redo, Check}
@@ -37,7 +37,7 @@ use Rattle.demands.proofs.Plays.{Passes, moveNo, plays-take, plays-next
 use Rattle.demands.proofs.Refusals.{passes-unsolved, passes-allowed, refused-make, refused-undo, refused-redo, refused-check, step-taken, step-refused}
 use Rattle.demands.proofs.Reached.{reached-fit}
 use Rattle.demands.proofs.Good.{Good, make-room, undo-unsolved, undo-some, redo-some, check-room}
-use Rattle.demands.proofs.Held.{Held, good-board, held-slot, held-make, held-check}
+use Rattle.demands.proofs.Held.{Held, good-board, held-slot, held-make, held-check, lent-passed}
 
 -- the board that holds a book's, with memory
 abbrev pub sessionOf : Book → List ℕ → List ℕ → Session
@@ -101,17 +101,10 @@ module _ {A : Type 0} (n m : ℕ) (e : n ≡ m) (done : A) (refused : ℕ → A)
 
 -- ---- place, erase and marks
 
--- 1 and 2 do not apply
-lent-passed : (k : Book) (journal : List ℕ) → Good k → length journal ≡ journalBytes → (ts : List Test) → first (lentTests (boardIn k) journal ts) ≡ first ts
-unfolding lentTests
-lent-passed k journal g e ts =
-    no-if (not (eqb (length journal) journalBytes)) 1 _ (not-is-false (eqb (length journal) journalBytes) (eq-eqb (length journal) journalBytes e))
-    ∙ no-if (not (isBoard (boardIn k))) 2 ts (not-is-false (isBoard (boardIn k)) (good-board k g))
-
 module _ (k : Book) (journal checks : List ℕ) (g : Good k) (h : Held journal checks k) where
   play-number : (m : Move) → first (callTests (boardIn k) journal m) ≡ refusedBy k (Make m)
   unfolding callTests boardIn boardOf stateOf
-  play-number m = lent-passed k journal g (h .journalLength) _ ∙ sym (refused-make k m)
+  play-number m = lent-passed k g (eqb (length journal) journalBytes) (eq-eqb (length journal) journalBytes (h .journalLength)) _ ∙ sym (refused-make k m)
 
   -- the state one move on
   made-state : (m : Move) → stateIn (taken k (Make m)) ≡ perform (stateIn k) m
@@ -199,10 +192,10 @@ module _ (k : Book) (g : Good k) (n : ℕ) (u : n < made k) where
 
   -- its slot can be taken back in the state after it
   can-back : canTakeBack (perform beforeIt itsMove) (slotFor beforeIt itsMove) ≡ true
-  unfolding canTakeBack isSound isGiven slotFor
+  unfolding canTakeBack isSound slotFor
   can-back =
       both-true _ _
-      (ap (λ (l : List ℕ). isSound (record { given = l; digits = []; notes = []; solved = 0 }) (slotFor beforeIt itsMove)) (given-kept beforeIt itsMove)
+      (ap (λ (l : List ℕ). isSound (record { given = l; digits = []; notes = []; solved = 0 } .given) (slotFor beforeIt itsMove)) (given-kept beforeIt itsMove)
       ∙ slot-sound beforeIt itsMove it-fit it-allowed)
       (ap (λ (m : Move). standsAsLeft (perform beforeIt itsMove) m (struck beforeIt itsMove)) (move-kept beforeIt itsMove)
       ∙ stands-left beforeIt itsMove it-fit it-allowed)
@@ -273,9 +266,9 @@ module _ (k : Book) (journal checks : List ℕ) (g : Good k) (h : Held journal c
         (length (k .checks))
 
   undo-number : first (undoTests (boardIn k) journal) ≡ refusedBy k Undo
-  unfolding undoTests boardIn boardOf stateOf
+  unfolding undoTests undoBefore lentTests boardIn boardOf stateOf
   undo-number =
-      lent-passed k journal g (h .journalLength) _
+      lent-passed k g (eqb (length journal) journalBytes) (eq-eqb (length journal) journalBytes (h .journalLength)) _
       ∙ third-test (isOn (stateIn k .solved)) (eqb (k .standing) 0) (not (canTakeBack (stateIn k) (slotAt journal (k .standing)))) 12
       (λ a b. not-is-false _ (latest-back (eqb-false (k .standing) 0 b)))
       ∙ sym (refused-undo k)
@@ -341,9 +334,9 @@ module _ (k : Book) (journal checks : List ℕ) (g : Good k) (h : Held journal c
       (λ t. le-leb (made k) (k .standing) (omega (arith, eqb-true (k .standing) (made k) t)))
 
   redo-number : first (redoTests (boardIn k) journal) ≡ refusedBy k Redo
-  unfolding redoTests boardIn boardOf stateOf
+  unfolding redoTests redoBefore lentTests boardIn boardOf stateOf
   redo-number =
-      lent-passed k journal g (h .journalLength) _
+      lent-passed k g (eqb (length journal) journalBytes) (eq-eqb (length journal) journalBytes (h .journalLength)) _
       ∙ third-test (isOn (stateIn k .solved)) (leb (made k) (k .standing)) (not (canRetake (stateIn k) (slotAt journal (k .standing + 1)))) 13
       (λ a b. not-is-false _ (next-again (eqb-false (k .standing) (made k) (sym none-next ∙ b))))
       ∙ ap (λ (t : Bool). first ((isOn (stateIn k .solved) ⇒ 4) ∷ (t ⇒ 13) ∷ [])) none-next
@@ -372,8 +365,7 @@ module _ (k : Book) (journal checks : List ℕ) (g : Good k) (h : Held journal c
     check-number : first (checkTests (boardIn k) checks row column) ≡ refusedBy k (Check row column)
     unfolding checkTests boardIn boardOf stateOf
     check-number =
-        no-if (not (eqb (length checks) checkMemory)) 1 _ (not-is-false (eqb (length checks) checkMemory) (eq-eqb (length checks) checkMemory (h .checksLength)))
-        ∙ no-if (not (isBoard (boardIn k))) 2 _ (not-is-false (isBoard (boardIn k)) (good-board k g))
+        lent-passed k g (eqb (length checks) checkMemory) (eq-eqb (length checks) checkMemory (h .checksLength)) _
         ∙ sym (refused-check k row column)
 
     checked-board : withCheck (boardIn k) ≡ boardIn (taken k (Check row column))

@@ -2,12 +2,14 @@
 -- Assumes nothing.
 use Prim.Native.Nat.{ℕ, _-_, _≤_}
 use mathlib.Core.Path.{_≡_, refl, sym, ap, _∙_}
-use mathlib.Core.List.{List, map}
+use mathlib.Core.List.{List, [], map}
+use lib.Dec.{eqb}
 use native.Mathlib.Omega.{arith}
 use lib.ListN.{length, take, length-map}
 use borrow.Author.Tests.{eq-eqb, le-ltb}
-use Rattle.sudoku.proofs.Walks.{both-true, not-is-false, pick-true}
+use Rattle.sudoku.proofs.Walks.{both-true, first-none, pick-true}
 use Rattle.sudoku.proofs.Each.{Each, each-to}
+use Rattle.sudoku.specs.Tests.{both}
 use Rattle.sudoku.specs.Grid.{cellOf}
 use Rattle.puzzle.specs.Givens.{givenCells}
 use Rattle.puzzle.specs.Refusals.{refusal, accepted}
@@ -17,8 +19,9 @@ use Rattle.journal.specs.Bytes.{over}
 use Rattle.journal.specs.State.{opening, digitAt}
 use Rattle.journal.specs.StoredChecks.{Stored}
 use Rattle.board.specs.Board.{stateOf, boardOf}
+use Rattle.play.specs.Play.{journalRefusal}
 use Rattle.record.specs.Items.{Parts, recordOf}
-use Rattle.record.specs.Write.{givensOf, movesOf, askedOf, partsOf, writeRefusal, writeOf, wrote}
+use Rattle.record.specs.Write.{givensOf, movesOf, askedOf, partsOf, unwritable, writeRefusal, writeOf, wrote}
 use Rattle.record.proofs.Givens.{givens-kept}
 use Rattle.record.proofs.Lengths.{record-short}
 use Rattle.record.proofs.Held.{StoredFits, CheckSound, asked-held, checks-sound}
@@ -28,7 +31,7 @@ use Rattle.demands.proofs.Opening.{opens-grid, opens-rising, opening-gi
 use Rattle.demands.proofs.Slots.{journal-moves, journal-sound}
 use Rattle.demands.proofs.Reached.{digits-kept}
 use Rattle.demands.proofs.Good.{Admitted, Good, standing-plays, good-given, good-is-given}
-use Rattle.demands.proofs.Held.{Held, good-board}
+use Rattle.demands.proofs.Held.{Held, lent-passed}
 use Rattle.demands.proofs.Steps.{sessionOf}
 
 -- ---- what is written
@@ -71,21 +74,19 @@ module _ (k : Book) (journal checks : List ℕ) (g : Good k) (h : Held journal c
       record { grid = a .grid; free = good-is-given k g (cellOf (c .row) (c .column)) ∙ a .free; some = a .some; in-time = a .few; range = a .range }
 
   write-accepted : (output : List ℕ) → length output ≡ recordBytes → writeRefusal (boardIn k) journal checks output ≡ accepted
-  unfolding writeRefusal boardIn boardOf stateOf made opening stateIn recordIn slotsIn
+  unfolding writeRefusal unwritable journalRefusal boardIn boardOf stateOf made opening stateIn recordIn slotsIn
   write-accepted output e =
-      or-else-of _ _
-      (accepts _ (if-not _ (refusal 1 0 0)
-      (not-is-false _ (both-true _ _ (eq-eqb (length journal) journalBytes (h .journalLength)) (eq-eqb (length checks) checkMemory (h .checksLength))))))
-      (or-else-of _ _ (accepts _ (if-not _ (refusal 2 0 0) (not-is-false _ (good-board k g))))
-      (or-else-of _ _
-      (accepts _
-      (journal-sound journal (opening (k .givens)) (k .moves) (h .slots) (stateIn k) (opening-fit (k .givens) (k .solution) (g .opens)) (g .plays) (sym same-given)))
-      (or-else-of _ _
-      (accepts _ (checks-sound checks (k .checks) (length (k .checks)) refl checks-fit (h .stored) (stateIn k)
-      (each-to (Admitted (k .givens) (k .solution)) (CheckSound (stateIn k)) check-sound (k .checks) (g .admitted))))
+      let lent = ap (λ (n : ℕ). refusal n 0 0)
+      (lent-passed k g (both (eqb (length journal) journalBytes) (eqb (length checks) checkMemory))
+      (both-true _ _ (eq-eqb (length journal) journalBytes (h .journalLength)) (eq-eqb (length checks) checkMemory (h .checksLength))) []
+      ∙ first-none) in
+      let slots = journal-sound journal (opening (k .givens)) (k .moves) (h .slots) (stateIn k) (opening-fit (k .givens) (k .solution) (g .opens)) (g .plays) (sym same-given) in
+      let stored = checks-sound checks (k .checks) (length (k .checks)) refl checks-fit (h .stored) (stateIn k)
+      (each-to (Admitted (k .givens) (k .solution)) (CheckSound (stateIn k)) check-sound (k .checks) (g .admitted)) in
+      or-else-of _ _ (accepts _ (or-else-of _ _ (accepts _ (or-else-of _ _ (accepts _ lent) slots)) stored))
       (if-not _ (refusal 34 0 0)
       (le-ltb (length output) (length (recordOf (partsOf (boardIn k) journal checks)))
-      (omega (arith, book-short k g, ap (λ (p : Parts). length (recordOf p)) same-parts)))))))
+      (omega (arith, book-short k g, ap (λ (p : Parts). length (recordOf p)) same-parts))))
 
   pub book-written : (output : List ℕ) → length output ≡ recordBytes
       → writeSession (sessionOf k journal checks) output ≡ wrote accepted (length (recordIn k)) (over output 0 (recordIn k))

@@ -6,7 +6,7 @@ use mathlib.Core.Bool.{Bool, false, not}
 use mathlib.Core.List.{List, [], _∷_, _++_, map}
 use lib.Dec.{eqb}
 use lib.ListN.{length, take}
-use Rattle.puzzle.specs.Givens.{isOn}
+use Rattle.puzzle.specs.Givens.{isOn, isGiven}
 use Rattle.sudoku.specs.Tests.{_⇒_, first, pick, both, either}
 use Rattle.sudoku.specs.Grid.{inRange, onGrid, cellOf}
 use Rattle.note.specs.Note.{contains}
@@ -15,10 +15,10 @@ use Rattle.puzzle.specs.Refusals.{refusal}
 use Rattle.journal.specs.declared.Move.{Move}
 use Rattle.journal.specs.declared.Move.the-variants.{Place, Erase, WriteMark, StrikeMark}
 use Rattle.journal.specs.Limits.{maxMoves, maxChecks}
-use Rattle.journal.specs.State.{State, opening, isGiven, digitAt, noteAt, holdsPlayersDigit, acceptsMarks, rowIn, columnIn, digitIn, target, perform}
+use Rattle.journal.specs.State.{State, opening, digitAt, noteAt, holdsPlayersDigit, acceptsMarks, rowIn, columnIn, digitIn, target, perform}
 use Rattle.journal.specs.Slots.{slotFor, bytesOf}
 use Rattle.journal.specs.StoredChecks.{Stored, judge}
-use Rattle.record.specs.declared.Asked.{Asked}
+use Rattle.journal.specs.declared.Asked.{Asked}
 use Rattle.record.specs.Items.{Parts, recordOf}
 use Rattle.calls.specs.declared.Call.{Call}
 use Rattle.calls.specs.declared.Call.the-variants.{Make, Undo, Redo, Check}
@@ -98,7 +98,7 @@ noSuchCell (Check row column) = not (onGrid row column)
 
 -- 5 GivenCell (place)
 unfoldable pub givenCell : State → Call → Bool
-givenCell s c = both (isOf (place ∷ []) c) (isGiven s (cellNamed c))
+givenCell s c = both (isOf (place ∷ []) c) (isGiven (s .given) (cellNamed c))
 
 -- 6 NoPlayersDigit (erase, check)
 unfoldable pub noPlayersDigit : State → Call → Bool

@@ -16,7 +16,7 @@ use Rattle.sudoku.proofs.Each.{Each}
 use Rattle.note.specs.Note.{contains, isNote}
 use Rattle.note.proofs.Note.{contains-digit, isNote-zero}
 use Rattle.puzzle.specs.declared.Given.{Given}
-use Rattle.puzzle.specs.Givens.{ascending, digitsOf, isOn, isSet}
+use Rattle.puzzle.specs.Givens.{ascending, digitsOf, isOn, isGiven}
 use Rattle.puzzle.proofs.Puzzle.{settled-fresh}
 use Rattle.puzzle.proofs.Givens.{OnGrid, Matches, Rising, rising, marked, given-at, flag-small, given-digit, free-digit, fresh-not-full, length-digits-of, length-given-cells}
 use Rattle.puzzle.specs.Puzzle.{holdsDigit, isFull, isConsistent, settled}
@@ -35,21 +35,21 @@ pub record Fit (s : State) : Type 0 where
   pub digits-81 : length (s .digits) ≡ 81
   pub notes-81 : length (s .notes) ≡ 81
   pub digits : (cell : ℕ) → isCell cell ≡ true → digitAt s cell ≤ 9
-  pub givens : (cell : ℕ) → isCell cell ≡ true → isSet (s .given) cell ≡ true → digitAt s cell ≡ 0 → ⊥
+  pub givens : (cell : ℕ) → isCell cell ≡ true → isGiven (s .given) cell ≡ true → digitAt s cell ≡ 0 → ⊥
   pub notes : (cell : ℕ) → isCell cell ≡ true → isNote (noteAt s cell) ≡ true
   pub status : s .solved ≡ bit (both (isFull (s .digits)) (isConsistent (s .digits)))
 
 -- what an accepted move finds, for each kind
 pub record PlaceAllowed (s : State) (row column digit : ℕ) : Type 0 where
   pub grid : onGrid row column ≡ true
-  pub free : isSet (s .given) (cellOf row column) ≡ false
+  pub free : isGiven (s .given) (cellOf row column) ≡ false
   pub range : inRange digit ≡ true
   pub other : digitAt s (cellOf row column) ≡ digit → ⊥
 
 pub record EraseAllowed (s : State) (row column : ℕ) : Type 0 where
   pub grid : onGrid row column ≡ true
   pub holds : holdsDigit (s .digits) (cellOf row column) ≡ true
-  pub free : isSet (s .given) (cellOf row column) ≡ false
+  pub free : isGiven (s .given) (cellOf row column) ≡ false
 
 pub record WriteAllowed (s : State) (row column digit : ℕ) : Type 0 where
   pub grid : onGrid row column ≡ true
@@ -99,7 +99,7 @@ module _ (s : State) (f : Fit s) where
       }
 
   -- so does a digit put into a cell that is no given, where the status is the digits'
-  fit-put : (cell d : ℕ) → isCell cell ≡ true → isSet (s .given) cell ≡ false → d ≤ 9
+  fit-put : (cell d : ℕ) → isCell cell ≡ true → isGiven (s .given) cell ≡ false → d ≤ 9
       → (putDigit s cell d) .solved ≡ bit (both (isFull (put (s .digits) cell d)) (isConsistent (put (s .digits) cell d))) → Fit (putDigit s cell d)
   unfolding putDigit digitAt noteAt
   fit-put cell d p free u e =
@@ -111,8 +111,8 @@ module _ (s : State) (f : Fit s) where
         digits = λ n q. at-most n q;
         givens = λ n q g z.
             by-test (eqb cell n)
-            (λ t. not-both-ways (isSet (s .given) n) g
-            (subst (λ (k : ℕ). isSet (s .given) k ≡ false) (eqb-true cell n t) free))
+            (λ t. not-both-ways (isGiven (s .given) n) g
+            (subst (λ (k : ℕ). isGiven (s .given) k ≡ false) (eqb-true cell n t) free))
             (λ t. f .givens n q g (sym (pick-false (eqb cell n) d (at (s .digits) n) t) ∙ sym (after n q) ∙ z));
         notes = f .notes;
         status = e;
@@ -337,10 +337,10 @@ move-kept s (WriteMark row column digit) = refl
 move-kept s (StrikeMark row column digit) = refl
 
 -- a cell of a fit state that holds no digit is no given
-empty-free : (s : State) (cell : ℕ) → Fit s → isCell cell ≡ true → holdsDigit (s .digits) cell ≡ false → isSet (s .given) cell ≡ false
+empty-free : (s : State) (cell : ℕ) → Fit s → isCell cell ≡ true → holdsDigit (s .digits) cell ≡ false → isGiven (s .given) cell ≡ false
 unfolding holdsDigit digitAt
 empty-free s cell f p h =
-    by-test (isSet (s .given) cell) (λ t. absurd (f .givens cell p t (eqb-true (at (s .digits) cell) 0 (not-false (eqb (at (s .digits) cell) 0) h)))) (λ t. t)
+    by-test (isGiven (s .given) cell) (λ t. absurd (f .givens cell p t (eqb-true (at (s .digits) cell) 0 (not-false (eqb (at (s .digits) cell) 0) h)))) (λ t. t)
 
 -- a digit that stands is one of 1 to 9
 holds-range : (s : State) (cell : ℕ) → Fit s → isCell cell ≡ true → holdsDigit (s .digits) cell ≡ true → inRange (digitAt s cell) ≡ true
@@ -353,9 +353,9 @@ holds-range s cell f p h =
 pub slot-sound : (s : State) (m : Move) → Fit s → Allowed s m → isSound (s .given) (slotFor s m) ≡ true
 unfolding isSound isFree soundPlace soundErase soundMark slotFor kindOf rowIn columnIn digitIn before struck both either
 slot-sound s (Place row column digit) f a =
-    both-true (both (onGrid row column) (not (isSet (s .given) (cellOf row column))))
+    both-true (both (onGrid row column) (not (isGiven (s .given) (cellOf row column))))
     (either (both (inRange digit) (both (leb (digitAt s (cellOf row column)) 9) (ltb (holders (s .notes) digit (peersOf (cellOf row column))) (2 ^ 20)))) false)
-    (both-true (onGrid row column) (not (isSet (s .given) (cellOf row column))) (a .grid) (ap not (a .free)))
+    (both-true (onGrid row column) (not (isGiven (s .given) (cellOf row column))) (a .grid) (ap not (a .free)))
     (either-left (both (inRange digit) (both (leb (digitAt s (cellOf row column)) 9) (ltb (holders (s .notes) digit (peersOf (cellOf row column))) (2 ^ 20)))) false
     (both-true (inRange digit) (both (leb (digitAt s (cellOf row column)) 9) (ltb (holders (s .notes) digit (peersOf (cellOf row column))) (2 ^ 20)))
     (a .range)
@@ -363,19 +363,19 @@ slot-sound s (Place row column digit) f a =
     (le-leb (digitAt s (cellOf row column)) 9 (f .digits (cellOf row column) (cell-of-is-cell row column (a .grid))))
     (lt-ltb (holders (s .notes) digit (peersOf (cellOf row column))) (2 ^ 20) (mask-small s (Place row column digit))))))
 slot-sound s (Erase row column) f a =
-    both-true (both (onGrid row column) (not (isSet (s .given) (cellOf row column)))) (either (both (inRange (digitAt s (cellOf row column))) true) false)
-    (both-true (onGrid row column) (not (isSet (s .given) (cellOf row column))) (a .grid) (ap not (a .free)))
+    both-true (both (onGrid row column) (not (isGiven (s .given) (cellOf row column)))) (either (both (inRange (digitAt s (cellOf row column))) true) false)
+    (both-true (onGrid row column) (not (isGiven (s .given) (cellOf row column))) (a .grid) (ap not (a .free)))
     (either-left (both (inRange (digitAt s (cellOf row column))) true) false
     (both-true (inRange (digitAt s (cellOf row column))) true
     (holds-range s (cellOf row column) f (cell-of-is-cell row column (a .grid)) (a .holds)) refl))
 slot-sound s (WriteMark row column digit) f a =
-    both-true (both (onGrid row column) (not (isSet (s .given) (cellOf row column)))) (both (inRange digit) true)
-    (both-true (onGrid row column) (not (isSet (s .given) (cellOf row column))) (a .grid)
+    both-true (both (onGrid row column) (not (isGiven (s .given) (cellOf row column)))) (both (inRange digit) true)
+    (both-true (onGrid row column) (not (isGiven (s .given) (cellOf row column))) (a .grid)
     (ap not (empty-free s (cellOf row column) f (cell-of-is-cell row column (a .grid)) (a .empty))))
     (both-true (inRange digit) true (a .range) refl)
 slot-sound s (StrikeMark row column digit) f a =
-    both-true (both (onGrid row column) (not (isSet (s .given) (cellOf row column)))) (both (inRange digit) true)
-    (both-true (onGrid row column) (not (isSet (s .given) (cellOf row column))) (a .grid)
+    both-true (both (onGrid row column) (not (isGiven (s .given) (cellOf row column)))) (both (inRange digit) true)
+    (both-true (onGrid row column) (not (isGiven (s .given) (cellOf row column))) (a .grid)
     (ap not (empty-free s (cellOf row column) f (cell-of-is-cell row column (a .grid)) (a .empty))))
     (both-true (inRange digit) true (contains-digit (noteAt s (cellOf row column)) digit (a .there)) refl)
 

@@ -13,7 +13,7 @@ use Rattle.journal.specs.declared.DigitChange.the-variants.{Put, None}
 use Rattle.journal.specs.declared.Move.{Move}
 use Rattle.journal.specs.declared.Move.the-variants.{Place, Erase, WriteMark, StrikeMark}
 use Rattle.journal.specs.declared.Slot.{Slot}
-use Rattle.puzzle.specs.Givens.{isSet}
+use Rattle.puzzle.specs.Givens.{isGiven}
 use Rattle.journal.specs.Limits.{slotBytes}
 use Rattle.journal.specs.Kinds.{placeKind, eraseKind, writeKind, strikeKind}
 use Rattle.journal.specs.Bytes.{part, low, second, third, three}
@@ -72,7 +72,7 @@ moveOf slot =
 
 -- a position is on the grid and no given's
 unfoldable pub isFree : List ℕ → ℕ → ℕ → Bool
-isFree given row column = both (onGrid row column) (not (isSet given (cellOf row column)))
+isFree given row column = both (onGrid row column) (not (isGiven given (cellOf row column)))
 
 -- the fields lie in their ranges for each kind. Place: a digit, a digit before of 0 to 9, a mask of twenty bits
 unfoldable pub soundPlace : Slot → Bool

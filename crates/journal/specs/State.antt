@@ -10,7 +10,7 @@ use Rattle.sudoku.specs.Tests.{pick, both, either, bit}
 use Rattle.sudoku.specs.Grid.{cellOf, at, put, peersOf}
 use Rattle.note.specs.Note.{contains, withMark, without}
 use Rattle.puzzle.specs.declared.Given.{Given}
-use Rattle.puzzle.specs.Givens.{digitsOf, givenCells, isSet}
+use Rattle.puzzle.specs.Givens.{digitsOf, givenCells, isGiven}
 use Rattle.puzzle.specs.Puzzle.{holdsDigit, settled}
 use Rattle.journal.specs.declared.Move.{Move}
 use Rattle.journal.specs.declared.Move.the-variants.{Place, Erase, WriteMark, StrikeMark}
@@ -26,7 +26,7 @@ pub record State : Type 0 where
 unfoldable pub opening : List Given → State
 opening gs = record { given = givenCells gs; digits = digitsOf gs; notes = replicate 81 0; solved = 0 }
 
--- of a cell: its digit (0 for none), its kept note. Whether it is a given its flag alone says: isSet (s .given) cell
+-- of a cell: its digit (0 for none), its kept note. Whether it is a given its flag alone says: isGiven of crate puzzle
 unfoldable pub digitAt : State → ℕ → ℕ
 digitAt s cell = at (s .digits) cell
 
@@ -35,7 +35,7 @@ noteAt s cell = at (s .notes) cell
 
 -- a player's digit is a digit in a cell that is no given
 unfoldable pub holdsPlayersDigit : State → ℕ → Bool
-holdsPlayersDigit s cell = both (holdsDigit (s .digits) cell) (not (isSet (s .given) cell))
+holdsPlayersDigit s cell = both (holdsDigit (s .digits) cell) (not (isGiven (s .given) cell))
 
 -- marks are accepted where the cell holds no digit
 unfoldable pub acceptsMarks : State → ℕ → Bool

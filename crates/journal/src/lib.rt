@@ -7,11 +7,17 @@ pub mod steps;
 
 // The kind bytes: of a given, the four moves, the count of undone moves, and a check. Moves have theirs in slots and in records, the others in records.
 pub const GIVEN: u8 = 1;
+
 pub const PLACE: u8 = 2;
+
 pub const ERASE: u8 = 3;
+
 pub const WRITE_MARK: u8 = 4;
+
 pub const STRIKE_MARK: u8 = 5;
+
 pub const UNDONE: u8 = 6;
+
 pub const CHECK: u8 = 7;
 
 // Moves that a journal holds.

@@ -17,7 +17,7 @@ ghost use mathlib.Core.Path.{_≡_};
 ghost use Prim.Native.Nat.{_*_};
 ghost use Rattle.journal.specs.Limits.{slotBytes};
 ghost use Rattle.journal.specs.Bytes.{laid, three as threeBytes};
-ghost use Rattle.puzzle.specs.Givens.{isSet};
+ghost use Rattle.puzzle.specs.Givens.{isGiven};
 ghost use Rattle.journal.specs.Slots.{bytesOf, slotAt, moveOf, soundPlace, soundErase, soundMark, isSound, isFree, digitChange as digitChangeOf};
 
 // A mask has a bit for each of the twenty peers, so it is below this.
@@ -130,7 +130,7 @@ pub fn digit_change(slot: Slot) -> DigitChange
 
 // Whether a cell is a given. No cell beyond the grid is.
 pub fn is_given(given: &[u8; 81], cell: usize) -> bool
-    ensures { λ r. ⌜ r ≡ isSet (now (given .entry)) cell ⌝ }
+    ensures { λ r. ⌜ r ≡ isGiven (now (given .entry)) cell ⌝ }
 {
     let all: &[u8] = given;
     let at = index_of(cell);

@@ -2,7 +2,7 @@
 -- Assumes nothing.
 use Prim.Native.Nat.{ℕ, _+_, _-_, _*_, _≤_, _<_}
 use mathlib.Core.Path.{_≡_, sym, ap, _∙_}
-use mathlib.Core.Bool.{true, false, not}
+use mathlib.Core.Bool.{Bool, true, false, not}
 use mathlib.Core.List.{List, [], _∷_, _++_}
 use native.Mathlib.Omega.{arith}
 use borrow.Author.Tests.{eqb-true, eqb-false, leb-true, leb-false, eq-eqb, ne-eqb, not-false}
@@ -10,7 +10,8 @@ use lib.Dec.{leb, eqb}
 use lib.ListN.{length, take, drop}
 use Rattle.sudoku.specs.Tests.{Test, _⇒_, first}
 use Rattle.sudoku.proofs.Walks.{passed, pick-true, pick-false, both-left, both-right}
-use Rattle.puzzle.specs.Refusals.{refusal, accepted}
+use Rattle.puzzle.specs.Refusals.{refusal, accepted, firstRefused}
+use Rattle.puzzle.proofs.Refusals.{or-else-by, or-else-passed}
 use Rattle.journal.specs.declared.Move.{Move}
 use Rattle.journal.specs.Limits.{maxMoves, maxChecks, slotBytes, journalBytes, checkBytes, checkMemory}
 use Rattle.journal.specs.Bytes.{part, over}
@@ -18,7 +19,7 @@ use Rattle.journal.specs.StoredChecks.{storedBytes}
 use Rattle.board.specs.declared.Board.{Board}
 use Rattle.board.specs.Board.{stateOf, isBoard, lentTests}
 use Rattle.board.specs.Open.{answer}
-use Rattle.play.specs.Play.{played, moveTests, callTests, recordMove, playOf, slotRefusal, undoTests, undone, undoOf, redoTests, redone, redoOf, latestNumber, latestPart, nextNumber, nextPart}
+use Rattle.play.specs.Play.{unsoundSlot, journalRefusal, played, moveTests, callTests, recordMove, playOf, slotRefusal, undoTests, undone, undoOf, redoTests, redone, redoOf, latestNumber, latestPart, nextNumber, nextPart}
 use Rattle.play.specs.Check.{checked, checkTests, checkOn, withCheck, checkOf}
 use Rattle.journal.specs.Slots.{slotAt, slotPart, slotStart}
 use Rattle.play.specs.Parts.{orNumber}
@@ -58,6 +59,21 @@ lent-passed b journal ts p =
       counts = board-counts b (not-false _ (two .0));
       rest = two .1;
     }
+
+-- ---- what writing and readings test of a board and its journal
+
+module _ (fits : Bool) (b : Board) (journal : List ℕ) (n : ℕ) (e : n ≡ first (lentTests fits b [])) where
+  pub lent-refuses : (n ≡ 0 → ⊥) → refusal n 0 0 ≡ journalRefusal fits b journal
+  unfolding journalRefusal
+  lent-refuses h = sym (or-else-by _ _ (refusal n 0 0) (ap (λ (k : ℕ). refusal k 0 0) (sym e)) h)
+
+  pub slots-decide : n ≡ 0 → firstRefused (unsoundSlot (b .given) journal) (b .made) 1 ≡ journalRefusal fits b journal
+  unfolding journalRefusal
+  slots-decide p = sym (or-else-passed _ _ (sym e ∙ p))
+
+  pub lent-counts : n ≡ 0 → Counted b
+  unfolding lentTests
+  lent-counts p = board-counts b (not-false _ (passed _ 1 _ (passed _ 0 _ (sym e ∙ p) .1) .0))
 
 -- ---- place, erase and the marks
 

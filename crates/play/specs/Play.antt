@@ -7,7 +7,7 @@ use mathlib.Core.Bool.{Bool, not}
 use mathlib.Core.List.{List, [], _∷_, _++_}
 use lib.Dec.{leb, eqb}
 use lib.ListN.{length}
-use Rattle.puzzle.specs.Givens.{isOn, isSet}
+use Rattle.puzzle.specs.Givens.{isOn, isGiven}
 use Rattle.sudoku.specs.Tests.{Test, _⇒_, first, pick, both}
 use Rattle.sudoku.specs.Grid.{inRange, onGrid, cellOf}
 use Rattle.note.specs.Note.{contains}
@@ -39,7 +39,7 @@ unfoldable pub moveTests : State → Move → List Test
 moveTests s (Place row column digit) =
     (not (onGrid row column) ⇒ 3)
     ∷ (isOn (s .solved) ⇒ 4)
-    ∷ (isSet (s .given) (cellOf row column) ⇒ 5)
+    ∷ (isGiven (s .given) (cellOf row column) ⇒ 5)
     ∷ (not (inRange digit) ⇒ 8)
     ∷ (eqb (digitAt s (cellOf row column)) digit ⇒ 9)
     ∷ []

@@ -14,7 +14,7 @@ ghost use mathlib.Core.Path.{_≡_};
 ghost use mathlib.Core.Bool.{not};
 ghost use mathlib.Core.List.{List, [], _∷_};
 ghost use lib.Dec.{eqb};
-ghost use Rattle.puzzle.specs.Givens.{isOn, isSet};
+ghost use Rattle.puzzle.specs.Givens.{isOn, isGiven};
 ghost use Rattle.puzzle.specs.Puzzle.{holdsDigit};
 ghost use Rattle.sudoku.specs.Tests.{_⇒_, first, both};
 ghost use Rattle.sudoku.specs.Grid.{inRange, onGrid, at};
@@ -39,7 +39,7 @@ fn cell_number(solved: u8, row: u8, column: u8) -> u8
 
 // Of a digit to place at a cell: 5 8 9.
 fn digit_number<'a>(digits: &'a [u8; 81], given: &'a [u8; 81], cell: usize, digit: u8) -> u8
-    ensures { λ r. ⌜ r ≡ first ((isSet (now (given .entry)) cell ⇒ 5) ∷ (not (inRange digit) ⇒ 8) ∷ (eqb (at (now (digits .entry)) cell) digit ⇒ 9) ∷ []) ⌝ }
+    ensures { λ r. ⌜ r ≡ first ((isGiven (now (given .entry)) cell ⇒ 5) ∷ (not (inRange digit) ⇒ 8) ∷ (eqb (at (now (digits .entry)) cell) digit ⇒ 9) ∷ []) ⌝ }
 {
     if is_given(given, cell) {
         return 5;
@@ -84,7 +84,7 @@ fn struck_number<'a>(digits: &'a [u8; 81], notes: &'a [u16; 81], cell: usize, ma
 
 // Of a digit to erase at a cell: 6.
 fn held_number<'a>(digits: &'a [u8; 81], given: &'a [u8; 81], cell: usize) -> u8
-    ensures { λ r. ⌜ r ≡ first ((not (both (holdsDigit (now (digits .entry)) cell) (not (isSet (now (given .entry)) cell))) ⇒ 6) ∷ []) ⌝ }
+    ensures { λ r. ⌜ r ≡ first ((not (both (holdsDigit (now (digits .entry)) cell) (not (isGiven (now (given .entry)) cell))) ⇒ 6) ∷ []) ⌝ }
 {
     if !holds_players_digit(digits, given, cell) {
         return 6;

@@ -15,7 +15,7 @@ use Rattle.sudoku.proofs.Walks.{by-test, not-both-ways, both-left, both-right, 
 use Rattle.sudoku.proofs.Grid.{cell-from, cell-to, is-cell, at-put-by, length-put, cell-on, cell-of-is-cell, grid-row, grid-column, range-from, range-to}
 use Rattle.sudoku.proofs.Each.{Each}
 use Rattle.puzzle.specs.declared.Given.{Given}
-use Rattle.puzzle.specs.Givens.{precedes, ascendFrom, ascending, putGivens, markGivens, digitsOf, givenCells, isSet}
+use Rattle.puzzle.specs.Givens.{precedes, ascendFrom, ascending, putGivens, markGivens, digitsOf, givenCells, isGiven}
 use Rattle.puzzle.specs.Puzzle.{holdsDigit, isFull}
 
 -- the cell of a given
@@ -102,8 +102,8 @@ set-or true x = refl
 set-or false x = refl
 
 flag-set : (flags : List ℕ) (c cell : ℕ) → length flags ≡ 81 → isCell c ≡ true → isCell cell ≡ true
-    → isSet (put flags c 1) cell ≡ either (eqb c cell) (isSet flags cell)
-unfolding isSet
+    → isGiven (put flags c 1) cell ≡ either (eqb c cell) (isGiven flags cell)
+unfolding isGiven
 flag-set flags c cell n p q = ap (λ (x : ℕ). not (eqb x 0)) (at-put-by flags c cell 1 n p q) ∙ set-or (eqb c cell) (at flags cell)
 
 either-swap : (a b c : Bool) → either a (either b c) ≡ either (either b a) c
@@ -114,21 +114,21 @@ either-swap false true c = refl
 either-swap false false c = refl
 
 marks-at : (flags : List ℕ) (gs : List Given) (cell : ℕ) → length flags ≡ 81 → Each OnGrid gs → isCell cell ≡ true
-    → isSet (markGivens flags gs) cell ≡ either (marked gs cell) (isSet flags cell)
+    → isGiven (markGivens flags gs) cell ≡ either (marked gs cell) (isGiven flags cell)
 unfolding markGivens marked Each either
 marks-at flags [] cell n ps q = refl
 marks-at flags (g ∷ gs) cell n ps q =
     marks-at (put flags (cellIn g) 1) gs cell (length-put flags (cellIn g) 1 ∙ n) (ps .1) q
     ∙ ap (λ (t : Bool). either (marked gs cell) t) (flag-set flags (cellIn g) cell n (cell-of-is-cell _ _ (ps .0)) q)
-    ∙ either-swap (marked gs cell) (eqb (cellIn g) cell) (isSet flags cell)
+    ∙ either-swap (marked gs cell) (eqb (cellIn g) cell) (isGiven flags cell)
 
 pub length-given-cells : (gs : List Given) → length (givenCells gs) ≡ 81
 unfolding givenCells
 length-given-cells gs = length-mark (replicate 81 0) gs
 
 -- a cell is a given's exactly where a given stands there
-pub given-at : (gs : List Given) (cell : ℕ) → Each OnGrid gs → isCell cell ≡ true → isSet (givenCells gs) cell ≡ marked gs cell
-unfolding givenCells isSet at
+pub given-at : (gs : List Given) (cell : ℕ) → Each OnGrid gs → isCell cell ≡ true → isGiven (givenCells gs) cell ≡ marked gs cell
+unfolding givenCells isGiven at
 given-at gs cell ps q =
     marks-at (replicate 81 0) gs cell refl ps q
     ∙ ap (λ (t : Bool). either (marked gs cell) t)
@@ -274,9 +274,9 @@ module _ (gs : List Given) (ps : Each OnGrid gs) (r : Rising 0 gs) where
   pub marked-count : count (marked gs) 81 1 ≡ length gs
   marked-count = counts 81 0 gs refl ps r
 
-  pub given-count : count (isSet (givenCells gs)) 81 1 ≡ length gs
+  pub given-count : count (isGiven (givenCells gs)) 81 1 ≡ length gs
   given-count =
-      count-same (isSet (givenCells gs)) (marked gs) 81 1
+      count-same (isGiven (givenCells gs)) (marked gs) 81 1
       (λ k l u. given-at gs k ps (is-cell k l (omega arith)))
       ∙ marked-count
 

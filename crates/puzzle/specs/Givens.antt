@@ -78,5 +78,5 @@ givenCells gs = markGivens (replicate 81 0) gs
 abbrev pub isOn : ℕ → Bool
 isOn flag = not (eqb flag 0)
 
-unfoldable pub isSet : List ℕ → ℕ → Bool
-isSet flags cell = isOn (at flags cell)
+unfoldable pub isGiven : List ℕ → ℕ → Bool
+isGiven flags cell = isOn (at flags cell)

@@ -5,7 +5,7 @@ use Prim.Native.Nat.{ℕ}
 use mathlib.Core.Bool.{Bool, false, not}
 use mathlib.Core.List.{[], _∷_}
 use lib.Dec.{ltb, eqb}
-use Rattle.puzzle.specs.Givens.{isOn, isSet}
+use Rattle.puzzle.specs.Givens.{isOn, isGiven}
 use Rattle.sudoku.specs.Tests.{_⇒_, first, pick, both}
 use Rattle.sudoku.specs.Grid.{inRange, onGrid, cellOf}
 use Rattle.puzzle.specs.Refusals.{refusal, accepted}
@@ -35,7 +35,7 @@ cellAnswer s cell =
     record {
       refusal = accepted;
       digit = digitAt s cell;
-      given = isSet (s .given) cell;
+      given = isGiven (s .given) cell;
       conflicting = conflicts (s .digits) cell;
       note = noteAt s cell;
       shown = eqb (digitAt s cell) 0;

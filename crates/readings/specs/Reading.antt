@@ -6,7 +6,7 @@ use mathlib.Core.Bool.{false, not}
 use mathlib.Core.List.{List}
 use lib.Dec.{leb, ltb, eqb}
 use lib.ListN.{length, replicate}
-use Rattle.puzzle.specs.Givens.{isSet}
+use Rattle.puzzle.specs.Givens.{isGiven}
 use Rattle.sudoku.specs.Tests.{pick, both, run, listed}
 use Rattle.sudoku.specs.Grid.{at}
 use Rattle.puzzle.specs.declared.Refusal.{Refusal}
@@ -23,7 +23,7 @@ unfoldable pub openingOf : Board → State
 openingOf b =
     record {
       given = b .given;
-      digits = listed (λ cell. pick (isSet (b .given) cell) (at (b .digits) cell) 0) 81 1;
+      digits = listed (λ cell. pick (isGiven (b .given) cell) (at (b .digits) cell) 0) 81 1;
       notes = replicate 81 0;
       solved = 0;
     }

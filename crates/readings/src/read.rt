@@ -2,9 +2,10 @@
 use crate::Reading;
 use crate::replay::after;
 use board::Board;
+use board::value::lent_number;
 use journal::JOURNAL_BYTES;
 use journal::slots::slot_at;
-use play::sound::journal_refusal;
+use play::sound::first_unsound;
 use puzzle::Refusal;
 use puzzle::answer::accepted;
 use puzzle::answer::refusal;
@@ -15,9 +16,13 @@ ghost use Rattle.readings.specs.Reading.{readingRefusal, reading as read
 fn reading_refusal(board: Board, journal: &[u8], k: usize) -> Refusal
     ensures { λ r. ⌜ r ≡ readingRefusal board (now (journal .entry)) k ⌝ }
 {
-    let refused = journal_refusal(board, journal.len() == JOURNAL_BYTES, journal);
-    if refused.number != 0 {
-        return refused;
+    let n = lent_number(board, journal.len() == JOURNAL_BYTES);
+    if n != 0 {
+        return refusal(n, 0, 0);
+    }
+    let unsound = first_unsound(&board.given, journal, board.made);
+    if unsound.number != 0 {
+        return unsound;
     }
     if k == 0 {
         return refusal(35, 0, 0);

@@ -6,7 +6,7 @@ use puzzle::digit_at;
 use sudoku::CELLS;
 use undo::again_in;
 ghost use mathlib.Core.Path.{_≡_};
-ghost use Rattle.puzzle.specs.Givens.{isSet};
+ghost use Rattle.puzzle.specs.Givens.{isGiven};
 ghost use Rattle.sudoku.specs.Tests.{pick, listed};
 ghost use Rattle.sudoku.specs.Grid.{at};
 ghost use Rattle.board.specs.Board.{stateOf};
@@ -14,7 +14,7 @@ ghost use Rattle.readings.specs.Reading.{openingOf, stateAfter};
 
 // The digit of a cell that is a given; 0 for any other.
 fn given_digit(digits: &[u8; 81], given: &[u8; 81], cell: usize) -> u8
-    ensures { λ r. ⌜ r ≡ pick (isSet (now (given .entry)) cell) (at (now (digits .entry)) cell) 0 ⌝ }
+    ensures { λ r. ⌜ r ≡ pick (isGiven (now (given .entry)) cell) (at (now (digits .entry)) cell) 0 ⌝ }
 {
     if is_given(given, cell) {
         return digit_at(digits, cell);
@@ -24,7 +24,7 @@ fn given_digit(digits: &[u8; 81], given: &[u8; 81], cell: usize) -> u8
 
 // The digits of the givens alone.
 fn given_digits(digits: [u8; 81], given: &[u8; 81]) -> [u8; 81]
-    ensures { λ r. ⌜ r ≡ listed (λ cell. pick (isSet (now (given .entry)) cell) (at digits cell) 0) 81 1 ⌝ }
+    ensures { λ r. ⌜ r ≡ listed (λ cell. pick (isGiven (now (given .entry)) cell) (at digits cell) 0) 81 1 ⌝ }
 {
     let mut out = [0u8; 81];
     let mut i: usize = 0;

@@ -14,7 +14,7 @@ use Rattle.sudoku.proofs.Walks.{by-test, count-same}
 use Rattle.sudoku.proofs.Grid.{cell-to, is-cell, cell-of-is-cell, row-of-cell, column-of-cell}
 use Rattle.sudoku.proofs.Each.{Each}
 use Rattle.puzzle.specs.declared.Given.{Given}
-use Rattle.puzzle.specs.Givens.{isSet, given, digitsOf, givenCells}
+use Rattle.puzzle.specs.Givens.{isGiven, given, digitsOf, givenCells}
 use Rattle.puzzle.proofs.Givens.{cellIn, OnGrid, Rising, marked, digitFor, given-at, digit-at, rising-unmarked, rising-on, rising-rest, marked-here, marked-beyond, digit-here, digit-beyond, given-count}
 use Rattle.board.specs.declared.Board.{Board}
 use Rattle.board.specs.Board.{stateOf}
@@ -31,7 +31,7 @@ keep-false t x l p = ap (λ (s : Bool). keep s x l) p
 
 -- what a walk of the cells beyond c finds on a board: marks and digits as the givens have them
 record Found (b : Board) (c : ℕ) (gs : List Given) : Type 0 where
-  marks : (cell : ℕ) → c < cell → cell ≤ 81 → isSet (b .given) cell ≡ marked gs cell
+  marks : (cell : ℕ) → c < cell → cell ≤ 81 → isGiven (b .given) cell ≡ marked gs cell
   digits : (cell : ℕ) → c < cell → cell ≤ 81 → marked gs cell ≡ true → at (b .digits) cell ≡ digitFor gs cell
 
 -- one cell on: the same givens, or those after the first
@@ -90,9 +90,9 @@ count-not f (suc n) i = omega (arith, count-not f n (suc i), one-of (f i))
 
 module _ (gs : List Given) (ps : Each OnGrid gs) (r : Rising 0 gs) (b : Board) (same : b .given ≡ givenCells gs) where
   -- a cell of the board is a given exactly where a given stands
-  pub is-given : (cell : ℕ) → isCell cell ≡ true → isSet (b .given) cell ≡ marked gs cell
+  pub is-given : (cell : ℕ) → isCell cell ≡ true → isGiven (b .given) cell ≡ marked gs cell
   unfolding stateOf
-  is-given cell q = ap (λ (l : List ℕ). isSet l cell) same ∙ given-at gs cell ps q
+  is-given cell q = ap (λ (l : List ℕ). isGiven l cell) same ∙ given-at gs cell ps q
 
   -- the board has the givens that it was opened with
   pub givens-kept : ((cell : ℕ) → isCell cell ≡ true → marked gs cell ≡ true → at (b .digits) cell ≡ at (digitsOf gs) cell) → givensOf b ≡ gs
@@ -112,8 +112,8 @@ module _ (gs : List Given) (ps : Each OnGrid gs) (r : Rising 0 gs) (b : Board) (
   to-play =
       omega (
         arith,
-        count-not (λ cell. isSet (b .given) cell) 81 1,
-        count-same (λ cell. isSet (b .given) cell) (isSet (givenCells gs)) 81 1
-            (λ k l u. ap (λ (l : List ℕ). isSet l k) same),
+        count-not (λ cell. isGiven (b .given) cell) 81 1,
+        count-same (λ cell. isGiven (b .given) cell) (isGiven (givenCells gs)) 81 1
+            (λ k l u. ap (λ (l : List ℕ). isGiven l k) same),
         given-count gs ps r,
       )

@@ -8,7 +8,7 @@ use native.Mathlib.Nat.{zero-add}
 use native.Mathlib.Omega.{arith}
 use borrow.Author.Tests.{le-leb}
 use lib.ListN.{length, getD, take, drop, take-append-drop}
-use Rattle.puzzle.specs.Givens.{isSet}
+use Rattle.puzzle.specs.Givens.{isGiven}
 use Rattle.sudoku.specs.Tests.{bit, listed}
 use Rattle.sudoku.specs.Grid.{inRange, onGrid, cellOf}
 use Rattle.sudoku.proofs.Walks.{not-is-false, both-true, bit-le}
@@ -97,7 +97,7 @@ askedIn c = record { standing = c .standing; row = c .row; column = c .column; d
 -- what makes a stored check sound
 pub record CheckSound (s : State) (c : Stored) : Type 0 where
   pub grid : onGrid (c .row) (c .column) ≡ true
-  pub free : isSet (s .given) (cellOf (c .row) (c .column)) ≡ false
+  pub free : isGiven (s .given) (cellOf (c .row) (c .column)) ≡ false
   pub some : 1 ≤ c .standing
   pub in-time : c .standing ≤ maxMoves
   pub range : inRange (c .digit) ≡ true

@@ -8,7 +8,7 @@ use native.Mathlib.Nat.{sub-eq-zero-of-le}
 use native.Mathlib.Numerals.{add-one}
 use native.Mathlib.Omega.{arith}
 use lib.ListN.{length, getD, length-append}
-use Rattle.puzzle.specs.Givens.{isSet}
+use Rattle.puzzle.specs.Givens.{isGiven}
 use Rattle.sudoku.specs.Tests.{pick, keep, bit, count, listed}
 use Rattle.sudoku.specs.Grid.{at}
 use Rattle.sudoku.proofs.Walks.{left-one}
@@ -135,14 +135,14 @@ unfolding keep bit
 keep-length true x l = omega arith
 keep-length false x l = omega arith
 
-pub count-of-givens : (b : Board) (n cell : ℕ) → length (givensFrom b n cell) ≡ count (isSet (b .given)) n cell
+pub count-of-givens : (b : Board) (n cell : ℕ) → length (givensFrom b n cell) ≡ count (isGiven (b .given)) n cell
 unfolding givensFrom count stateOf
 count-of-givens b zero cell = refl
-count-of-givens b (suc n) cell = keep-length _ _ (givensFrom b n (suc cell)) ∙ ap (λ (k : ℕ). bit (isSet (b .given) cell) + k) (count-of-givens b n (suc cell))
+count-of-givens b (suc n) cell = keep-length _ _ (givensFrom b n (suc cell)) ∙ ap (λ (k : ℕ). bit (isGiven (b .given) cell) + k) (count-of-givens b n (suc cell))
 
 module _ (b : Board) (journal checks : List ℕ) where
   pub length-record : length (recordOf (partsOf b journal checks))
-      ≡ 4 * count (isSet (b .given)) 81 1 + length (movesBytes journal (b .made)) + 3 + 6 * b .checks
+      ≡ 4 * count (isGiven (b .given)) 81 1 + length (movesBytes journal (b .made)) + 3 + 6 * b .checks
   unfolding partsOf givensOf movesBytes askedOf
   length-record =
       omega (

@@ -2,7 +2,7 @@
 -- Assumes nothing.
 use Prim.Native.Nat.{ℕ}
 use mathlib.Core.List.{List, [], _∷_, map}
-use Rattle.puzzle.specs.Givens.{isSet}
+use Rattle.puzzle.specs.Givens.{isGiven}
 use Rattle.sudoku.specs.Tests.{pick}
 use Rattle.sudoku.specs.Grid.{at, rowOf, columnOf}
 use Rattle.journal.specs.Kinds.{givenKind}
@@ -14,7 +14,7 @@ use Rattle.record.specs.Write.{givensOf, movesOf, askedOf}
 -- the item of a cell's given; no bytes where it is none
 unfoldable pub givenBytes : List ℕ → List ℕ → ℕ → List ℕ
 givenBytes given digits cell =
-    pick (isSet given cell) (givenKind ∷ rowOf cell ∷ columnOf cell ∷ at digits cell ∷ []) []
+    pick (isGiven given cell) (givenKind ∷ rowOf cell ∷ columnOf cell ∷ at digits cell ∷ []) []
 
 -- the items of a board's givens, of the moves of slots 1 to made, and of stored checks
 unfoldable pub givensBytes : Board → List ℕ

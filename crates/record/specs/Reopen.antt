@@ -10,7 +10,7 @@ use Rattle.sudoku.specs.Tests.{_⇒_, first, pick, both, either, count}
 use Rattle.sudoku.specs.Grid.{inRange, onGrid, cellOf}
 use Rattle.puzzle.specs.declared.Refusal.{Refusal}
 use Rattle.puzzle.specs.Refusals.{refusal, accepted, isAccepted, refusedIf, orElse}
-use Rattle.puzzle.specs.Givens.{isOn, ascending, isSet}
+use Rattle.puzzle.specs.Givens.{isOn, ascending, isGiven}
 use Rattle.puzzle.specs.Vouch.{vouch}
 use Rattle.journal.specs.declared.Move.{Move}
 use Rattle.journal.specs.Limits.{maxMoves, maxChecks}
@@ -66,7 +66,7 @@ takeBackAll (suc n) b journal = takeBackAll n (undoOf b journal .board) journal
 
 -- how many cells were to play: those that are no givens
 unfoldable pub toPlay : Board → ℕ
-toPlay b = count (λ cell. not (isSet (b .given) cell)) 81 1
+toPlay b = count (λ cell. not (isGiven (b .given) cell)) 81 1
 
 -- at check k: 31 Check place refused by inner 3, 5 or 8; 32 CheckAfterNoMove; 33 a right digit where one cell was to play
 unfoldable pub checkRefusal : Board → ℕ → ℕ → Asked → Refusal
@@ -74,7 +74,7 @@ checkRefusal b cells k c =
     let cell = cellOf (c .row) (c .column) in
     let n =
     first
-    ((not (onGrid (c .row) (c .column)) ⇒ 3) ∷ (isSet (b .given) cell ⇒ 5) ∷ (not (inRange (c .digit)) ⇒ 8) ∷ [])
+    ((not (onGrid (c .row) (c .column)) ⇒ 3) ∷ (isGiven (b .given) cell ⇒ 5) ∷ (not (inRange (c .digit)) ⇒ 8) ∷ [])
     in
     orElse (refusedIf (not (eqb n 0)) (refusal 31 k n))
     (orElse (refusedIf (eqb (c .standing) 0) (refusal 32 k 0))

@@ -10,7 +10,7 @@ use Rattle.sudoku.specs.Grid.{at, rowOf, columnOf}
 use Rattle.puzzle.specs.declared.Given.{Given as Setters}
 use Rattle.puzzle.specs.declared.Refusal.{Refusal}
 use Rattle.puzzle.specs.Refusals.{refusal, accepted, isAccepted, refusedIf, orElse, firstRefused}
-use Rattle.puzzle.specs.Givens.{given, isSet}
+use Rattle.puzzle.specs.Givens.{given, isGiven}
 use Rattle.journal.specs.declared.Move.{Move}
 use Rattle.journal.specs.Limits.{journalBytes, checkMemory}
 use Rattle.journal.specs.Bytes.{over}
@@ -26,7 +26,7 @@ use Rattle.record.specs.Items.{Parts, recordOf}
 unfoldable pub givensFrom : Board → ℕ → ℕ → List Setters
 givensFrom b zero cell = []
 givensFrom b (suc n) cell =
-    keep (isSet (b .given) cell) (given (rowOf cell) (columnOf cell) (at (b .digits) cell)) (givensFrom b n (suc cell))
+    keep (isGiven (b .given) cell) (given (rowOf cell) (columnOf cell) (at (b .digits) cell)) (givensFrom b n (suc cell))
 
 unfoldable pub givensOf : Board → List Setters
 givensOf b = givensFrom b 81 1

@@ -1,9 +1,9 @@
 // Items: what a kind byte decides, and what stands at an offset of a record's bytes.
-use journal::Asked;
 use crate::Group;
 use crate::Item;
 use crate::Read;
 use crate::Shape;
+use journal::Asked;
 use journal::Move;
 use journal::Slot;
 use journal::slots::move_of;

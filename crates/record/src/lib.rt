@@ -11,9 +11,13 @@ pub mod write;
 
 // Bytes of the items of a record, the kind byte among them: of a given and of a move with a digit, of an erase, of the undone count, of a check.
 pub const GIVEN_ITEM: usize = 4;
+
 pub const MOVE_ITEM: usize = 4;
+
 pub const ERASE_ITEM: usize = 3;
+
 pub const UNDONE_ITEM: usize = 3;
+
 pub const CHECK_ITEM: usize = 6;
 // The longest record: every cell a given but one, all moves and all checks.
 pub const RECORD_BYTES: usize = GIVEN_ITEM * (CELLS - 1)

@@ -6,6 +6,7 @@ use crate::MOVE_ITEM;
 use crate::UNDONE_ITEM;
 use crate::Written;
 use board::Board;
+use board::value::lent_number;
 use journal::CHECK;
 use journal::CHECK_BYTES;
 use journal::CHECK_MEMORY;
@@ -21,7 +22,7 @@ use journal::checks::is_sound_check;
 use journal::slots::is_given;
 use journal::slots::move_of;
 use journal::slots::slot_at;
-use play::sound::journal_refusal;
+use play::sound::first_unsound;
 use puzzle::Refusal;
 use puzzle::answer::accepted;
 use puzzle::answer::refusal;
@@ -36,7 +37,7 @@ ghost use mathlib.Core.List.{[], _∷_};
 ghost use Prim.Native.Nat.{_+_, _*_, _≤_};
 ghost use lib.ListN.{length};
 ghost use Rattle.journal.specs.StoredChecks.{askedAt};
-ghost use Rattle.puzzle.specs.Givens.{isSet};
+ghost use Rattle.puzzle.specs.Givens.{isGiven};
 ghost use Rattle.sudoku.specs.Tests.{count as countOf};
 ghost use Rattle.puzzle.specs.Refusals.{firstRefused};
 ghost use Rattle.journal.specs.Limits.{maxMoves, maxChecks};
@@ -77,7 +78,11 @@ fn unwritable(board: Board, journal: &[u8], checks: &[u8]) -> Refusal
     ensures { λ r. ⌜ (r ≡ unwritableOf board (now (journal .entry)) (now (checks .entry))) × (r .number ≡ 0 → (board .made ≤ maxMoves) × (board .standing ≤ board .made) × (board .checks ≤ maxChecks)) ⌝ }
 {
     let fits = (journal.len() == JOURNAL_BYTES) & (checks.len() == CHECK_MEMORY);
-    let r = journal_refusal(board, fits, journal);
+    let n = lent_number(board, fits);
+    if n != 0 {
+        return refusal(n, 0, 0);
+    }
+    let r = first_unsound(&board.given, journal, board.made);
     if r.number != 0 {
         return r;
     }
@@ -86,7 +91,7 @@ fn unwritable(board: Board, journal: &[u8], checks: &[u8]) -> Refusal
 
 // How many cells hold a given.
 pub fn count_givens(given: &[u8; 81]) -> usize
-    ensures { λ r. ⌜ (r ≡ countOf (isSet (now (given .entry))) 81 1) × (r ≤ 81) ⌝ }
+    ensures { λ r. ⌜ (r ≡ countOf (isGiven (now (given .entry))) 81 1) × (r ≤ 81) ⌝ }
 {
     let mut n: usize = 0;
     let mut cell: usize = 1;
@@ -212,8 +217,22 @@ fn lay_move(m: Move, output: &mut [u8], at: usize) -> usize
     match m {
         Move::Place { row, column, digit } => lay_four(output, at, PLACE, row, column, digit),
         Move::Erase { row, column } => lay_three(output, at, ERASE, row, column),
-        Move::WriteMark { row, column, digit } => lay_four(output, at, WRITE_MARK, row, column, digit),
-        Move::StrikeMark { row, column, digit } => lay_four(output, at, STRIKE_MARK, row, column, digit),
+        Move::WriteMark { row, column, digit } => lay_four(
+            output,
+            at,
+            WRITE_MARK,
+            row,
+            column,
+            digit,
+        ),
+        Move::StrikeMark { row, column, digit } => lay_four(
+            output,
+            at,
+            STRIKE_MARK,
+            row,
+            column,
+            digit,
+        ),
     }
 }
 

@@ -10,7 +10,7 @@ use native.Mathlib.Omega.{arith}
 use borrow.Author.Tests.{eqb-false, eq-eqb, ne-eqb}
 use lib.Dec.{eqb}
 use lib.ListN.{length}
-use Rattle.puzzle.specs.Givens.{isSet}
+use Rattle.puzzle.specs.Givens.{isGiven}
 use Rattle.sudoku.specs.Tests.{_⇒_, first, both, count, listed}
 use Rattle.sudoku.specs.Grid.{inRange, onGrid, cellOf}
 use Rattle.sudoku.proofs.Walks.{not-is-true, not-is-false, both-true, both-false-left, both-false-right, left-one, count-same}
@@ -31,13 +31,13 @@ use Rattle.record.proofs.Givens.{count-not}
 
 -- ---- cells to play
 
-pub cells-to-play : (b : Board) → toPlay b + count (isSet (b .given)) 81 1 ≡ 81
+pub cells-to-play : (b : Board) → toPlay b + count (isGiven (b .given)) 81 1 ≡ 81
 unfolding toPlay stateOf
 cells-to-play b =
     omega (
       arith,
-      count-not (λ cell. isSet (b .given) cell) 81 1,
-      count-same (λ cell. isSet (b .given) cell) (isSet (b .given)) 81 1 (λ k l u. refl),
+      count-not (λ cell. isGiven (b .given) cell) 81 1,
+      count-same (λ cell. isGiven (b .given) cell) (isGiven (b .given)) 81 1 (λ k l u. refl),
     )
 
 -- ---- one check
@@ -154,7 +154,7 @@ module _ (bytes : List ℕ) (start count k : ℕ) (h : count + 1 ≤ k) where
 module _ (b c : Board) (g : b .given ≡ c .given) (s : b .solution ≡ c .solution) where
   pub to-play-same : toPlay b ≡ toPlay c
   unfolding toPlay stateOf
-  to-play-same = ap (λ (l : List ℕ). count (λ cell. not (isSet l cell)) 81 1) g
+  to-play-same = ap (λ (l : List ℕ). count (λ cell. not (isGiven l cell)) 81 1) g
 
   check-same : (cells k : ℕ) (a : Asked) → checkRefusal b cells k a ≡ checkRefusal c cells k a
   unfolding checkRefusal stateOf
@@ -166,14 +166,14 @@ module _ (b c : Board) (g : b .given ≡ c .given) (s : b .solution ≡ c .solut
       (eqb
       (first
       ((not (onGrid (a .row) (a .column)) ⇒ 3)
-      ∷ (isSet (g j) (cellOf (a .row) (a .column)) ⇒ 5)
+      ∷ (isGiven (g j) (cellOf (a .row) (a .column)) ⇒ 5)
       ∷ (not (inRange (a .digit)) ⇒ 8)
       ∷ []))
       0))
       (refusal 31 k
       (first
       ((not (onGrid (a .row) (a .column)) ⇒ 3)
-      ∷ (isSet (g j) (cellOf (a .row) (a .column)) ⇒ 5)
+      ∷ (isGiven (g j) (cellOf (a .row) (a .column)) ⇒ 5)
       ∷ (not (inRange (a .digit)) ⇒ 8)
       ∷ []))))
       (orElse (refusedIf (eqb (a .standing) 0) (refusal 32 k 0))

@@ -6,7 +6,7 @@ use mathlib.Core.Bool.{not}
 use mathlib.Core.List.{List, [], _∷_}
 use lib.Dec.{eqb}
 use lib.ListN.{length}
-use Rattle.puzzle.specs.Givens.{isOn, isSet}
+use Rattle.puzzle.specs.Givens.{isOn, isGiven}
 use Rattle.sudoku.specs.Tests.{_⇒_, first, pick, listed}
 use Rattle.sudoku.specs.Grid.{inRange, onGrid, cellOf}
 use Rattle.puzzle.specs.declared.Refusal.{Refusal}
@@ -52,7 +52,7 @@ unfoldable pub askedNumber : List ℕ → Asked → ℕ
 askedNumber given c =
     first
     ((not (onGrid (c .row) (c .column)) ⇒ 3)
-    ∷ (isSet given (cellOf (c .row) (c .column)) ⇒ 5)
+    ∷ (isGiven given (cellOf (c .row) (c .column)) ⇒ 5)
     ∷ (not (inRange (c .digit)) ⇒ 8)
     ∷ [])
 

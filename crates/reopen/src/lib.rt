@@ -1,5 +1,4 @@
 // Reopening a record: the givens opened, all moves performed (28, 29), the undone ones taken back (30), then the checks (31 to 33).
-use undo::undo_in;
 use board::Answer;
 use board::Board;
 use board::open::clear;
@@ -7,6 +6,7 @@ use board::open::fresh;
 use board::open::lent_lengths;
 use board::open::wrong_length;
 use board::open::zero_board;
+use journal::Asked;
 use journal::Counts;
 use journal::Move;
 use journal::checks::is_right;
@@ -19,7 +19,6 @@ use puzzle::Layout;
 use puzzle::Refusal;
 use puzzle::answer::accepted;
 use puzzle::answer::refusal;
-use journal::Asked;
 use record::CHECK_ITEM;
 use record::GIVEN_ITEM;
 use record::items::asked_at;
@@ -31,6 +30,7 @@ use sudoku::CELLS;
 use sudoku::cell_of;
 use sudoku::in_range;
 use sudoku::on_grid;
+use undo::undo_in;
 ghost use mathlib.Core.Path.{_≡_};
 ghost use mathlib.Core.Bool.{not};
 ghost use mathlib.Core.List.{map};
@@ -70,13 +70,7 @@ fn next_refusal<'a>(
 }
 
 // The board with other digits, notes, status and counts.
-fn with_parts(
-    board: Board,
-    digits: [u8; 81],
-    notes: [u16; 81],
-    solved: u8,
-    counts: Counts,
-) -> Board
+fn with_parts(board: Board, digits: [u8; 81], notes: [u16; 81], solved: u8, counts: Counts) -> Board
     ensures { λ r. ⌜ r ≡ whole digits (board .given) notes (board .solution) solved (counts .made) (counts .standing) (board .checks) ⌝ }
 {
     let mut next = board;
@@ -143,7 +137,17 @@ fn take_back_all<'a>(
     if n == 0 {
         return;
     }
-    undo_in(digits, given, notes, solution, solved, made, standing, checks, journal);
+    undo_in(
+        digits,
+        given,
+        notes,
+        solution,
+        solved,
+        made,
+        standing,
+        checks,
+        journal,
+    );
     take_back_all(
         n - 1,
         digits,

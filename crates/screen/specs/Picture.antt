@@ -10,7 +10,7 @@ use Rattle.sudoku.specs.Tests.{pick, both, either, listed}
 use Rattle.sudoku.specs.Grid.{cellOf, at}
 use Rattle.note.specs.Note.{contains, isEmpty}
 use Rattle.puzzle.specs.Puzzle.{holdsDigit, conflicts}
-use Rattle.puzzle.specs.Givens.{isSet}
+use Rattle.puzzle.specs.Givens.{isGiven}
 use Rattle.screen.specs.declared.Spot.{Spot}
 use Rattle.screen.specs.declared.Spot.the-variants.{Frame, Inside}
 
@@ -104,7 +104,7 @@ markSign note spot = pick (contains note spot) (figure spot) (pick (either (eqb 
 unfoldable pub cellSign : List ℕ → List ℕ → List ℕ → ℕ → ℕ → ℕ
 cellSign digits given notes cell spot =
     pick (holdsDigit digits cell)
-    (digitSign (at digits cell) (isSet given cell) (conflicts digits cell) spot)
+    (digitSign (at digits cell) (isGiven given cell) (conflicts digits cell) spot)
     (markSign (at notes cell) spot)
 
 unfoldable pub signAt : List ℕ → List ℕ → List ℕ → Spot → ℕ
@@ -123,7 +123,7 @@ pictureOf digits given notes = listed (signOf digits given notes) size 0
 unfoldable pub cellColour : List ℕ → List ℕ → ℕ → ℕ
 cellColour digits given cell =
     pick (holdsDigit digits cell)
-    (pick (conflicts digits cell) 3 (pick (isSet given cell) 1 2))
+    (pick (conflicts digits cell) 3 (pick (isGiven given cell) 1 2))
     4
 
 unfoldable pub colourAt : List ℕ → List ℕ → Spot → ℕ

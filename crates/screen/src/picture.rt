@@ -7,7 +7,7 @@ use puzzle::holds_digit;
 use sudoku::cell_of;
 ghost use mathlib.Core.Path.{_≡_};
 ghost use Prim.Native.Nat.{_<_, _≤_};
-ghost use Rattle.puzzle.specs.Givens.{isSet};
+ghost use Rattle.puzzle.specs.Givens.{isGiven};
 ghost use Rattle.screen.specs.Picture.{size, figure as figureOf, across as acrossAt, upright as uprightAt, columnLabel};
 ghost use Rattle.screen.specs.Picture.{rowLabel, spotOf, framed as framedAt, placed as placedAt, isCorner, bracketAt};
 ghost use Rattle.screen.specs.Picture.{digitSign, markSign, cellSign, signOf, pictureOf, cellColour, colourOf, coloursOf};
@@ -204,7 +204,7 @@ fn mark_sign(note: u16, spot: u8) -> u8
 
 // Whether the flag of a cell is set.
 fn is_set(flags: &[u8; 81], cell: usize) -> bool
-    ensures { λ r. ⌜ r ≡ isSet (now (flags .entry)) cell ⌝ }
+    ensures { λ r. ⌜ r ≡ isGiven (now (flags .entry)) cell ⌝ }
 {
     digit_at(flags, cell) != 0
 }

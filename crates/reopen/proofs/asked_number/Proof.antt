@@ -2,7 +2,7 @@
 -- Assumes nothing.
 use mathlib.Core.Path.{sym, ap, _∙_}
 use mathlib.Core.Bool.{not}
-use Rattle.puzzle.specs.Givens.{isSet}
+use Rattle.puzzle.specs.Givens.{isGiven}
 use Rattle.sudoku.proofs.Walks.{refused, no-if}
 use Rattle.board.proofs.Numbers.{last-if}
 use Rattle.reopen.specs.Reopening.{askedNumber}
@@ -27,7 +27,7 @@ is-given-requires c κs = search needs
 returns-2 : tie.Need-returns-2
 unfolding askedNumber
 returns-2 c =
-    sym (no-if _ 3 _ (ap not (sym (c .before .before .before .before .on-grid .ensures)) ∙ c .before .before .before .if1 .left) ∙ refused _ 5 _ (sym (c .before .is-given .ensures ∙ ap (isSet (c .before .before .before .before .before .args .given .now)) (c .before .before .cell-of .ensures .0)) ∙ c .if2 .taken))
+    sym (no-if _ 3 _ (ap not (sym (c .before .before .before .before .on-grid .ensures)) ∙ c .before .before .before .if1 .left) ∙ refused _ 5 _ (sym (c .before .is-given .ensures ∙ ap (isGiven (c .before .before .before .before .before .args .given .now)) (c .before .before .cell-of .ensures .0)) ∙ c .if2 .taken))
 
 in-range-requires : tie.Need-in-range-requires
 in-range-requires c κs = search needs
@@ -35,12 +35,12 @@ in-range-requires c κs = search needs
 returns-3 : tie.Need-returns-3
 unfolding askedNumber
 returns-3 c =
-    sym (no-if _ 3 _ (ap not (sym (c .before .before .before .before .before .before .on-grid .ensures)) ∙ c .before .before .before .before .before .if1 .left) ∙ no-if _ 5 _ (sym (c .before .before .before .is-given .ensures ∙ ap (isSet (c .before .before .before .before .before .before .before .args .given .now)) (c .before .before .before .before .cell-of .ensures .0)) ∙ c .before .before .if2 .left) ∙ refused _ 8 _ (ap not (sym (c .before .in-range .ensures)) ∙ c .if3 .taken))
+    sym (no-if _ 3 _ (ap not (sym (c .before .before .before .before .before .before .on-grid .ensures)) ∙ c .before .before .before .before .before .if1 .left) ∙ no-if _ 5 _ (sym (c .before .before .before .is-given .ensures ∙ ap (isGiven (c .before .before .before .before .before .before .before .args .given .now)) (c .before .before .before .before .cell-of .ensures .0)) ∙ c .before .before .if2 .left) ∙ refused _ 8 _ (ap not (sym (c .before .in-range .ensures)) ∙ c .if3 .taken))
 
 returns-4 : tie.Need-returns-4
 unfolding askedNumber
 returns-4 c =
-    sym (no-if _ 3 _ (ap not (sym (c .before .before .before .before .before .before .on-grid .ensures)) ∙ c .before .before .before .before .before .if1 .left) ∙ no-if _ 5 _ (sym (c .before .before .before .is-given .ensures ∙ ap (isSet (c .before .before .before .before .before .before .before .args .given .now)) (c .before .before .before .before .cell-of .ensures .0)) ∙ c .before .before .if2 .left) ∙ last-if _ 8 (ap not (sym (c .before .in-range .ensures)) ∙ c .if3 .left))
+    sym (no-if _ 3 _ (ap not (sym (c .before .before .before .before .before .before .on-grid .ensures)) ∙ c .before .before .before .before .before .if1 .left) ∙ no-if _ 5 _ (sym (c .before .before .before .is-given .ensures ∙ ap (isGiven (c .before .before .before .before .before .before .before .args .given .now)) (c .before .before .before .before .cell-of .ensures .0)) ∙ c .before .before .if2 .left) ∙ last-if _ 8 (ap not (sym (c .before .in-range .ensures)) ∙ c .if3 .left))
 
 pub asked-number-spec : {M : Type 1} → statement M
 asked-number-spec =

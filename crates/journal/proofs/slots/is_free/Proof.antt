@@ -5,7 +5,7 @@ use mathlib.Core.Bool.{not}
 use borrow.Author.Tests.{not-true, not-false}
 use borrow.Author.Needs.{needs}
 use Rattle.sudoku.proofs.Walks.{both-first, both-false-left}
-use Rattle.puzzle.specs.Givens.{isSet}
+use Rattle.puzzle.specs.Givens.{isGiven}
 use Rattle.journal.specs.Slots.{isFree}
 use Rattle.journal.proofs.slots.is_free.Statement.{statement}
 use Rattle.journal.proofs.slots.is_free.Tie as tie
@@ -26,7 +26,7 @@ is-given-requires c κs = search needs
 returns-2 : tie.Need-returns-2
 unfolding isFree
 returns-2 c =
-    ap not (c .is-given .ensures ∙ ap (λ n. isSet (c .before .before .before .before .args .given .now) n) (c .before .cell-of .ensures .0))
+    ap not (c .is-given .ensures ∙ ap (λ n. isGiven (c .before .before .before .before .args .given .now) n) (c .before .cell-of .ensures .0))
     ∙ sym (both-first _ _ (sym (c .before .before .before .on-grid .ensures) ∙ not-false _ (c .before .before .if1 .left)))
 
 pub is-free-spec : {M : Type 1} → statement M

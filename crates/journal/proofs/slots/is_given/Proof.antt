@@ -6,7 +6,7 @@ use native.Mathlib.Omega.{arith}
 use borrow.Author.Needs.{needs}
 use lib.Dec.{eqb}
 use Rattle.sudoku.specs.Grid.{at}
-use Rattle.puzzle.specs.Givens.{isSet}
+use Rattle.puzzle.specs.Givens.{isGiven}
 use lib.ListN.{getD, List·getD-eq-default}
 use Rattle.journal.proofs.slots.is_given.Statement.{statement}
 use Rattle.journal.proofs.slots.is_given.Tie as tie
@@ -18,11 +18,11 @@ shared-slice-read-result : tie.Need-shared-slice-read-result
 shared-slice-read-result c = search needs
 
 returns : tie.Need-returns
-unfolding isSet at
+unfolding isGiven at
 returns c = ap (λ k. not (eqb (getD (c .before .before .before .before .args .given .now) k 0) 0)) (c .before .before .index-of .ensures)
 
 returns-2 : tie.Need-returns-2
-unfolding isSet at
+unfolding isGiven at
 returns-2 c = sym (ap (λ x. not (eqb x 0)) (List·getD-eq-default (c .before .before .before .args .given .now) 0 (omega (arith, c .before .index-of .ensures))))
 
 pub is-given-spec : {M : Type 1} → statement M

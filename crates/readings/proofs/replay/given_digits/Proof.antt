@@ -5,7 +5,7 @@ use mathlib.Core.Path.{_≡_, refl, ap, _∙_}
 use mathlib.Core.List.{List}
 use native.Mathlib.Omega.{arith}
 use lib.ListN.{length, take, set, length-set}
-use Rattle.puzzle.specs.Givens.{isSet}
+use Rattle.puzzle.specs.Givens.{isGiven}
 use Rattle.sudoku.specs.Tests.{pick, listed}
 use Rattle.sudoku.specs.Grid.{at}
 use Rattle.sudoku.proofs.Listed.{fill-more, fill-all, listed-shift}
@@ -14,7 +14,7 @@ use Rattle.readings.proofs.replay.given_digits.Statement.{statement}
 use Rattle.readings.proofs.replay.given_digits.Tie as tie
 
 abbrev digitOf : List ℕ → List ℕ → ℕ → ℕ
-digitOf given digits cell = pick (isSet given cell) (at digits cell) 0
+digitOf given digits cell = pick (isGiven given cell) (at digits cell) 0
 
 abbrev Inv-loop : tie.InvT-loop
 Inv-loop given digits out₀ i₀ out i = (i ≤ 81) × (length out ≡ 81) × (take i out ≡ listed (λ (n : ℕ). digitOf given digits (n + 1)) i 0)

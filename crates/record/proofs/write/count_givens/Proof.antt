@@ -5,7 +5,7 @@ use mathlib.Core.Path.{_≡_, sym, _∙_}
 use mathlib.Core.Logic.{⊎-elim}
 use native.Mathlib.Nat.{zero-add, add-zero}
 use native.Mathlib.Omega.{arith}
-use Rattle.puzzle.specs.Givens.{isSet}
+use Rattle.puzzle.specs.Givens.{isGiven}
 use Rattle.sudoku.specs.Tests.{count}
 use Rattle.sudoku.proofs.Walks.{count-more, count-skips, count-all}
 use borrow.Author.Needs.{needs}
@@ -15,7 +15,7 @@ use Rattle.record.proofs.write.count_givens.Tie as tie
 abbrev Inv-loop : tie.InvT-loop
 Inv-loop given n₀ cell₀ n cell =
     (1 ≤ cell) × (cell ≤ 82) × (n < cell)
-    × (count (isSet given) 81 1 ≡ n + count (isSet given) (82 - cell) cell)
+    × (count (isGiven given) 81 1 ≡ n + count (isGiven given) (82 - cell) cell)
 
 abbrev μ-loop : tie.MeasureT-loop
 μ-loop given n₀ cell₀ n cell =
@@ -23,7 +23,7 @@ abbrev μ-loop : tie.MeasureT-loop
 
 loop-holds : tie.Need-loop-holds Inv-loop μ-loop
 loop-holds c =
-    (omega arith, omega arith, omega arith, sym (zero-add (count (isSet (c .args .given .now)) 81 1)))
+    (omega arith, omega arith, omega arith, sym (zero-add (count (isGiven (c .args .given .now)) 81 1)))
 
 is-given-requires : tie.Need-is-given-requires Inv-loop μ-loop
 is-given-requires c κs = search needs
@@ -40,7 +40,7 @@ loop-less c = search needs
 loop-again : tie.Need-loop-again Inv-loop μ-loop
 loop-again c =
     let is-given = c .before .is-given in
-    let f = isSet (c .before .before .before .before .args .given .now) in
+    let f = isGiven (c .before .before .before .before .args .given .now) in
     let turn = c .before .before .before .loop in
     let u : turn .cell < 82 = omega arith in
     ⊎-elim
@@ -60,7 +60,7 @@ loop-again c =
 
 returns : tie.Need-returns Inv-loop μ-loop
 returns c =
-    let f = isSet (c .before .before .args .given .now) in
+    let f = isGiven (c .before .before .args .given .now) in
     let turn = c .before .loop in
     (sym (turn .inv .3 ∙ rw (count-all f 82 (turn .cell) (omega arith)) (add-zero (turn .n))), omega arith)
 

@@ -6,7 +6,7 @@ use mathlib.Core.List.{List, [], _∷_}
 use native.Mathlib.Omega.{arith}
 use borrow.Author.Tests.{not-true, not-false}
 use lib.ListN.{length}
-use Rattle.puzzle.specs.Givens.{isSet}
+use Rattle.puzzle.specs.Givens.{isGiven}
 use Rattle.sudoku.specs.Grid.{at, rowOf, columnOf}
 use Rattle.sudoku.proofs.Walks.{pick-true, pick-false}
 use Rattle.journal.specs.Bytes.{over}
@@ -23,7 +23,7 @@ returns : tie.Need-returns
 unfolding givenBytes
 returns c =
     let a = c .before .before .before .args in
-    let none : givenBytes (a .given .now) (a .digits .now) (a .cell) ≡ [] = pick-false (isSet (a .given .now) (a .cell)) (1 ∷ rowOf (a .cell) ∷ columnOf (a .cell) ∷ at (a .digits .now) (a .cell) ∷ []) [] (sym (c .before .is-given .ensures) ∙ not-true _ (c .if1 .taken)) in
+    let none : givenBytes (a .given .now) (a .digits .now) (a .cell) ≡ [] = pick-false (isGiven (a .given .now) (a .cell)) (1 ∷ rowOf (a .cell) ∷ columnOf (a .cell) ∷ at (a .digits .now) (a .cell) ∷ []) [] (sym (c .before .is-given .ensures) ∙ not-true _ (c .if1 .taken)) in
     (omega (arith, ap length none), sym (over-nil (a .output .now) (a .at)) ∙ ap (over (a .output .now) (a .at)) (sym none))
 
 row-of-requires : tie.Need-row-of-requires
@@ -47,7 +47,7 @@ lay-four-requires : tie.Need-lay-four-requires
 unfolding givenBytes
 lay-four-requires c κs =
     let a = c .before .before .before .before .before .before .before .args in
-    let item : givenBytes (a .given .now) (a .digits .now) (a .cell) ≡ (1 ∷ rowOf (a .cell) ∷ columnOf (a .cell) ∷ at (a .digits .now) (a .cell) ∷ []) = pick-true (isSet (a .given .now) (a .cell)) (1 ∷ rowOf (a .cell) ∷ columnOf (a .cell) ∷ at (a .digits .now) (a .cell) ∷ []) [] (sym (c .before .before .before .before .before .is-given .ensures) ∙ not-false _ (c .before .before .before .before .if1 .left)) in
+    let item : givenBytes (a .given .now) (a .digits .now) (a .cell) ≡ (1 ∷ rowOf (a .cell) ∷ columnOf (a .cell) ∷ at (a .digits .now) (a .cell) ∷ []) = pick-true (isGiven (a .given .now) (a .cell)) (1 ∷ rowOf (a .cell) ∷ columnOf (a .cell) ∷ at (a .digits .now) (a .cell) ∷ []) [] (sym (c .before .before .before .before .before .is-given .ensures) ∙ not-false _ (c .before .before .before .before .if1 .left)) in
     omega (arith, ap length item, c .before .before .before .before .before .before .before .pre .1)
 
 same-length : tie.Need-same-length
@@ -58,7 +58,7 @@ unfolding givenBytes
 returns-2 c =
     let a = c .before .before .before .before .before .before .before .before .before .before .args in
     let lay-four = c .before .before .lay-four in
-    let item : givenBytes (a .given .now) (a .digits .now) (a .cell) ≡ (1 ∷ rowOf (a .cell) ∷ columnOf (a .cell) ∷ at (a .digits .now) (a .cell) ∷ []) = pick-true (isSet (a .given .now) (a .cell)) (1 ∷ rowOf (a .cell) ∷ columnOf (a .cell) ∷ at (a .digits .now) (a .cell) ∷ []) [] (sym (c .before .before .before .before .before .before .before .before .is-given .ensures) ∙ not-false _ (c .before .before .before .before .before .before .before .if1 .left)) in (
+    let item : givenBytes (a .given .now) (a .digits .now) (a .cell) ≡ (1 ∷ rowOf (a .cell) ∷ columnOf (a .cell) ∷ at (a .digits .now) (a .cell) ∷ []) = pick-true (isGiven (a .given .now) (a .cell)) (1 ∷ rowOf (a .cell) ∷ columnOf (a .cell) ∷ at (a .digits .now) (a .cell) ∷ []) [] (sym (c .before .before .before .before .before .before .before .before .is-given .ensures) ∙ not-false _ (c .before .before .before .before .before .before .before .if1 .left)) in (
       lay-four .ensures .0 ∙ ap (λ (l : List ℕ). a .at + length l) (sym item),
       lay-four .ensures .1
           ∙ (λ j. over (a .output .now) (a .at) (1 ∷ c .before .before .before .before .before .before .row-of .ensures j ∷ c .before .before .before .before .before .column-of .ensures .0 j ∷ c .before .before .before .digit-at .ensures j ∷ []))
