@@ -10,7 +10,7 @@ use Rattle.puzzle.specs.declared.Given.{Given}
 use Rattle.puzzle.specs.Refusals.{accepted}
 use Rattle.journal.specs.Limits.{journalBytes, checkMemory, recordBytes}
 use Rattle.journal.specs.Bytes.{over}
-use Rattle.journal.specs.StoredChecks.{judge, judged}
+use Rattle.journal.specs.StoredChecks.{judged}
 use Rattle.journal.proofs.Memory.{take-over-end}
 use Rattle.board.specs.Open.{Opened, openedFresh}
 use Rattle.journal.specs.declared.Asked.{Asked}
@@ -61,7 +61,7 @@ kept-all givens solution calls o =
 
 -- the checks of a record, judged and then without their verdicts
 asked-same : (solution : List ℕ) (cs : List Asked) → map asked (map (judged solution) cs) ≡ cs
-unfolding judged judge asked
+unfolding asked
 asked-same solution [] = refl
 asked-same solution (c ∷ cs) = λ i. c ∷ asked-same solution cs i
 

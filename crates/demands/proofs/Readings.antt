@@ -8,6 +8,7 @@ use native.Mathlib.Numerals.{add-one}
 use native.Mathlib.Omega.{arith}
 use lib.ListN.{length, getD, take, replicate}
 use lib.Seq.{ext-getD}
+use lib.Dec.{eqb}
 use borrow.Author.Tests.{eq-eqb}
 use Rattle.sudoku.specs.Tests.{pick, run, listed}
 use Rattle.sudoku.specs.Grid.{isCell, at}
@@ -36,10 +37,10 @@ use Rattle.demands.proofs.Refusals.{passes-allowed}
 use Rattle.demands.proofs.Opening.{opening-digit, opening-free, opening-fit}
 use Rattle.demands.proofs.Reached.{reached-fit, reached-digit}
 use Rattle.demands.proofs.Good.{Good, good-new, good-keep, standing-plays, good-given, good-is-given}
-use Rattle.demands.proofs.Slots.{journal-sound}
-use Rattle.demands.proofs.Held.{Held, good-board, held-slot}
+use Rattle.demands.proofs.Held.{Held, held-slot}
 use Rattle.demands.proofs.Steps.{sessionOf}
 use Rattle.demands.proofs.Lists.{session-all, session-left}
+use Rattle.demands.proofs.Writing.{journal-accepted}
 
 -- a list of 81 entries is what a function lists, where the two agree at every cell
 listed-cells : (f : ℕ → ℕ) (l : List ℕ) → length l ≡ 81 → ((cell : ℕ) → isCell cell ≡ true → f cell ≡ at l cell) → listed f 81 1 ≡ l
@@ -119,15 +120,11 @@ module _ (k : Book) (journal checks : List ℕ) (g : Good k) (h : Held journal c
 
   module _ (n : ℕ) (l : 1 ≤ n) (u : n ≤ made k) where
     not-refused : readingRefusal (boardIn k) journal n ≡ accepted
-    unfolding readingRefusal boardIn boardOf stateOf made opening stateIn slotsIn
+    unfolding readingRefusal boardIn boardOf made
     not-refused =
-        or-else-of _ _ (accepts _ (if-not _ (refusal 1 0 0) (not-is-false _ (eq-eqb (length journal) journalBytes (h .journalLength)))))
-        (or-else-of _ _ (accepts _ (if-not _ (refusal 2 0 0) (not-is-false _ (good-board k g))))
-        (or-else-of _ _
-        (accepts _
-        (journal-sound journal (opening (k .givens)) (k .moves) (h .slots) (stateIn k) (opening-fit (k .givens) (k .solution) (g .opens)) (g .plays)
-        (sym (same-given k g))))
-        (if-not _ (refusal 35 0 0) (was-made n (length (k .moves)) (λ p. omega (arith, p, l)) u))))
+        or-else-of _ _
+        (accepts _ (journal-accepted k journal checks g h (eqb (length journal) journalBytes) (eq-eqb (length journal) journalBytes (h .journalLength))))
+        (if-not _ (refusal 35 0 0) (was-made n (length (k .moves)) (λ p. omega (arith, p, l)) u))
 
     is-reading : readingOf (boardIn k) journal n ≡ reading (boardIn k) journal n
     is-reading = sym (is-read (boardIn k) journal n (ap (λ (r : Refusal). r .number) not-refused))

@@ -16,7 +16,7 @@ use Rattle.puzzle.specs.Puzzle.{holdsDigit}
 use Rattle.journal.specs.declared.Move.{Move}
 use Rattle.journal.specs.declared.Move.the-variants.{Place, Erase, WriteMark, StrikeMark}
 use Rattle.journal.specs.Limits.{maxMoves, maxChecks}
-use Rattle.journal.specs.State.{State, digitAt, noteAt, holdsPlayersDigit, acceptsMarks, rowIn, columnIn, digitIn, target}
+use Rattle.journal.specs.State.{State, digitAt, noteAt, holdsPlayersDigit, acceptsMarks, rowIn, columnIn, digitIn}
 use Rattle.journal.proofs.Moves.{Allowed}
 use Rattle.play.specs.Play.{moveTests}
 use Rattle.calls.specs.declared.Call.{Call}
@@ -129,7 +129,7 @@ booked = 0
 
 module _ (k : Book) where
   pub refused-make : (m : Move) → refusedBy k (Make m) ≡ first (moveTests (stateIn k) m ++ ((eqb (k .standing) maxMoves ⇒ 15) ∷ []))
-  unfolding booked moveTests target rowIn columnIn digitIn
+  unfolding booked moveTests rowIn columnIn digitIn
   refused-make (Place row column digit) = refl
   refused-make (Erase row column) = refl
   refused-make (WriteMark row column digit) = refl

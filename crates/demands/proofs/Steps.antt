@@ -195,7 +195,7 @@ module _ (k : Book) (g : Good k) (n : ℕ) (u : n < made k) where
   unfolding canTakeBack isSound slotFor
   can-back =
       both-true _ _
-      (ap (λ (l : List ℕ). isSound (record { given = l; digits = []; notes = []; solved = 0 } .given) (slotFor beforeIt itsMove)) (given-kept beforeIt itsMove)
+      (ap (λ (l : List ℕ). isSound l (slotFor beforeIt itsMove)) (given-kept beforeIt itsMove)
       ∙ slot-sound beforeIt itsMove it-fit it-allowed)
       (ap (λ (m : Move). standsAsLeft (perform beforeIt itsMove) m (struck beforeIt itsMove)) (move-kept beforeIt itsMove)
       ∙ stands-left beforeIt itsMove it-fit it-allowed)

@@ -2,6 +2,7 @@
 -- Assumes nothing.
 use Prim.Native.Nat.{ℕ, _-_, _≤_}
 use mathlib.Core.Path.{_≡_, refl, sym, ap, _∙_}
+use mathlib.Core.Bool.{Bool, true}
 use mathlib.Core.List.{List, [], map}
 use lib.Dec.{eqb}
 use native.Mathlib.Omega.{arith}
@@ -73,17 +74,21 @@ module _ (k : Book) (journal checks : List ℕ) (g : Good k) (h : Held journal c
   check-sound c a =
       record { grid = a .grid; free = good-is-given k g (cellOf (c .row) (c .column)) ∙ a .free; some = a .some; in-time = a .few; range = a .range }
 
+  -- tests 1, 2 and 14 pass for the board and the journal of a book
+  pub journal-accepted : (fits : Bool) → fits ≡ true → journalRefusal fits (boardIn k) journal ≡ accepted
+  unfolding journalRefusal boardIn boardOf stateOf made opening stateIn slotsIn
+  journal-accepted fits e =
+      or-else-of _ _ (accepts _ (ap (λ (n : ℕ). refusal n 0 0) (lent-passed k g fits e [] ∙ first-none)))
+      (journal-sound journal (opening (k .givens)) (k .moves) (h .slots) (stateIn k) (opening-fit (k .givens) (k .solution) (g .opens)) (g .plays) (sym same-given))
+
   write-accepted : (output : List ℕ) → length output ≡ recordBytes → writeRefusal (boardIn k) journal checks output ≡ accepted
-  unfolding writeRefusal unwritable journalRefusal boardIn boardOf stateOf made opening stateIn recordIn slotsIn
+  unfolding writeRefusal unwritable boardIn boardOf stateOf made opening stateIn recordIn slotsIn
   write-accepted output e =
-      let lent = ap (λ (n : ℕ). refusal n 0 0)
-      (lent-passed k g (both (eqb (length journal) journalBytes) (eqb (length checks) checkMemory))
-      (both-true _ _ (eq-eqb (length journal) journalBytes (h .journalLength)) (eq-eqb (length checks) checkMemory (h .checksLength))) []
-      ∙ first-none) in
-      let slots = journal-sound journal (opening (k .givens)) (k .moves) (h .slots) (stateIn k) (opening-fit (k .givens) (k .solution) (g .opens)) (g .plays) (sym same-given) in
+      let lent = journal-accepted (both (eqb (length journal) journalBytes) (eqb (length checks) checkMemory))
+      (both-true _ _ (eq-eqb (length journal) journalBytes (h .journalLength)) (eq-eqb (length checks) checkMemory (h .checksLength))) in
       let stored = checks-sound checks (k .checks) (length (k .checks)) refl checks-fit (h .stored) (stateIn k)
       (each-to (Admitted (k .givens) (k .solution)) (CheckSound (stateIn k)) check-sound (k .checks) (g .admitted)) in
-      or-else-of _ _ (accepts _ (or-else-of _ _ (accepts _ (or-else-of _ _ (accepts _ lent) slots)) stored))
+      or-else-of _ _ (accepts _ (or-else-of _ _ (accepts _ lent) stored))
       (if-not _ (refusal 34 0 0)
       (le-ltb (length output) (length (recordOf (partsOf (boardIn k) journal checks)))
       (omega (arith, book-short k g, ap (λ (p : Parts). length (recordOf p)) same-parts))))

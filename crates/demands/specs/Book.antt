@@ -15,7 +15,7 @@ use Rattle.puzzle.specs.Refusals.{refusal}
 use Rattle.journal.specs.declared.Move.{Move}
 use Rattle.journal.specs.declared.Move.the-variants.{Place, Erase, WriteMark, StrikeMark}
 use Rattle.journal.specs.Limits.{maxMoves, maxChecks}
-use Rattle.journal.specs.State.{State, opening, digitAt, noteAt, holdsPlayersDigit, acceptsMarks, rowIn, columnIn, digitIn, target, perform}
+use Rattle.journal.specs.State.{State, opening, digitAt, noteAt, holdsPlayersDigit, acceptsMarks, rowIn, columnIn, digitIn, perform}
 use Rattle.journal.specs.Slots.{slotFor, bytesOf}
 use Rattle.journal.specs.StoredChecks.{Stored, judge}
 use Rattle.journal.specs.declared.Asked.{Asked}
@@ -78,7 +78,7 @@ isOf (kind ∷ kinds) c = either (eqb (ordinal (kindIn c)) (ordinal kind)) (isOf
 
 -- the cell and the digit that a call names; 0 where it names none
 unfoldable pub cellNamed : Call → ℕ
-cellNamed (Make m) = target m
+cellNamed (Make m) = cellOf (rowIn m) (columnIn m)
 cellNamed Undo = 0
 cellNamed Redo = 0
 cellNamed (Check row column) = cellOf row column
