@@ -30,8 +30,8 @@ extern "C" {
 #define PAWDOKU_ASSERT(test, text) _Static_assert(test, text)
 #endif
 
-/* The version of this boundary: of the names, layouts and numbers below. It is raised with each change of them that a
- * program compiled before would not meet, and stands here once.
+/* The version of this boundary: of the names, layouts and numbers below. It is raised whenever anything in this header
+ * but a comment changes, and stands here once.
  *
  * pawdoku_version() is the version of the library that is linked. It need not be asked: the library defines one
  * function with its version in the name, pawdoku_abi_1, and this header refers to the one of its own version, below.

@@ -1,4 +1,5 @@
--- The laws of opening: memory set to zero byte by byte, and what `openOf` gives where number 1 applies and where it does not.
+-- The laws of opening: memory set to zero byte by byte, and what
+-- `openOf` gives where number 1 applies and where it does not.
 -- Assumes nothing.
 use Prim.Native.Nat.{ℕ, _+_, _/_, _%_, _≤_, _<_}
 use mathlib.Core.Path.{_≡_, refl, sym, ap, subst, _∙_}

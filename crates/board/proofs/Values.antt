@@ -2,14 +2,12 @@
 -- Assumes nothing.
 use Prim.Native.Nat.{ℕ, _+_, _-_, _≤_, _<_}
 use mathlib.Core.Path.{_≡_, refl, sym, ap, _∙_}
-use mathlib.Core.Bool.{Bool, true, not}
+use mathlib.Core.Bool.{Bool, true}
 use mathlib.Core.List.{List}
 use native.Mathlib.Omega.{arith}
-use lib.Dec.{eqb}
 use lib.ListN.{getD}
 use Rattle.sudoku.specs.Tests.{both, every}
 use Rattle.sudoku.specs.Grid.{at}
-use Rattle.puzzle.specs.Givens.{isGiven}
 use Rattle.sudoku.proofs.Walks.{both-assoc, both-second, every-step, every-all}
 
 back-one : (i : ℕ) → i + 1 - 1 ≡ i
@@ -19,10 +17,6 @@ back-one i = omega arith
 pub at-next : (l : List ℕ) (i : ℕ) → at l (i + 1) ≡ getD l i 0
 unfolding at
 at-next l i = ap (λ (k : ℕ). getD l k 0) (back-one i)
-
-pub set-next : (l : List ℕ) (i : ℕ) → isGiven l (i + 1) ≡ not (eqb (getD l i 0) 0)
-unfolding isGiven
-set-next l i = ap (λ (x : ℕ). not (eqb x 0)) (at-next l i)
 
 -- what a turn does: ok is what was found of the cells before, r of this cell too
 pub turn :

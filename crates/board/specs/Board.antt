@@ -67,7 +67,8 @@ noteValue notes cell = isNote (at notes cell)
 unfoldable pub solutionValue : List ℕ → ℕ → Bool
 solutionValue solution cell = inRange (at solution cell)
 
--- number 2 speaks of board values for which this does not hold: made above 1,024, standing above made, checks above 256, a status other than 0 and 1, or a cell's values
+-- number 2 speaks of board values for which this does not hold: made above 1,024,
+-- standing above made, checks above 256, a status other than 0 and 1, or a cell's values
 unfoldable pub isBoard : Board → Bool
 isBoard b =
     both (leb (b .made) maxMoves)
@@ -77,7 +78,8 @@ isBoard b =
     (both (every (digitValue (b .digits) (b .given)) 81 1)
     (both (every (noteValue (b .notes)) 81 1) (every (solutionValue (b .solution)) 81 1))))))
 
--- 1 and 2, which every call with a board and lent memory tests first: whether what is lent has its length, and the board value
+-- 1 and 2, which every call with a board and lent memory tests
+-- first: whether what is lent has its length, and the board value
 unfoldable pub lentTests : Bool → Board → List Test → List Test
 lentTests fits b tests = (not fits ⇒ 1) ∷ (not (isBoard b) ⇒ 2) ∷ tests
 

@@ -1,4 +1,5 @@
-// What a cell's parts say together (board/cell.rs of the original). Any number is a cell here: where the grid has none, nothing stands.
+// What a cell's parts say together (board/cell.rs of the original).
+// Any number is a cell here: where the grid has none, nothing stands.
 use journal::slots::is_given;
 use puzzle::holds_digit;
 ghost use mathlib.Core.Path.{_≡_};

@@ -1,11 +1,13 @@
-// The board (board.rs, board/cell.rs, board/check.rs and board/error.rs of the original): one puzzle as it is being played.
+// The board (board.rs, board/cell.rs, board/check.rs and
+// board/error.rs of the original): one puzzle as it is being played.
 use puzzle::Refusal;
 
 pub mod cell;
 pub mod open;
 pub mod value;
 
-// A board by value, with flat arrays of 81 and open fields. It goes into a call and comes back in its answer. Its flags are bytes, so that a host passes it as it is: number 2 speaks of flags other than 0 and 1.
+// A board by value, with flat arrays of 81 and open fields. It goes into a call and comes back in its answer.
+// Its flags are bytes, so that a host passes it as it is: number 2 speaks of flags other than 0 and 1.
 #[repr(C)]
 pub struct Board {
     // 0 means none

@@ -1,4 +1,5 @@
-// Opening a board: number 1 of what is lent, then 19 and 22 to 27, then the fresh board. The lent memory is zero afterwards, but after 1 it stays.
+// Opening a board: number 1 of what is lent, then 19 and 22 to 27, then the
+// fresh board. The lent memory is zero afterwards, but after 1 it stays.
 use crate::Answer;
 use crate::Board;
 use journal::CHECK_MEMORY;

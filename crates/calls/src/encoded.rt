@@ -1,4 +1,4 @@
-// Calls read from bytes, and their answers written as bytes. specs/Encoded has the encoding; crate pawdoku runs them.
+// Calls read from bytes. specs/Encoded has the encoding; crate pawdoku runs them and writes their answers.
 use crate::CALL_BYTES;
 use crate::CALL_CHECK;
 use crate::CALL_ERASE;
@@ -10,14 +10,9 @@ use crate::CALL_WRITE_MARK;
 use crate::Call;
 use crate::Decoded;
 use journal::Move;
-use puzzle::Refusal;
-use puzzle::byte_at;
 ghost use mathlib.Core.Path.{_≡_};
-ghost use Prim.Native.Nat.{_*_, _/_, _<_, _≤_};
-ghost use lib.ListN.{length};
-ghost use Rattle.sudoku.specs.Tests.{bit};
-ghost use Rattle.journal.specs.Bytes.{over};
-ghost use Rattle.calls.specs.Encoded.{callBytes, said, decodeOther, decode as decodeOf, decodeAt, groups as groupsOf, answerBytes};
+ghost use Prim.Native.Nat.{_/_, _≤_};
+ghost use Rattle.calls.specs.Encoded.{callBytes, decodeOther, decode as decodeOf, groups as groupsOf};
 
 // What four bytes encode whose first is that of no move.
 fn decode_other(kind: u8, row: u8, column: u8) -> Decoded
@@ -39,7 +34,7 @@ fn decode_other(kind: u8, row: u8, column: u8) -> Decoded
 }
 
 // What four bytes encode.
-fn decode(kind: u8, row: u8, column: u8, digit: u8) -> Decoded
+pub fn decode(kind: u8, row: u8, column: u8, digit: u8) -> Decoded
     ensures { λ r. ⌜ r ≡ decodeOf kind row column digit ⌝ }
 {
     if kind == CALL_PLACE {
@@ -70,40 +65,6 @@ fn decode(kind: u8, row: u8, column: u8, digit: u8) -> Decoded
         }));
     }
     decode_other(kind, row, column)
-}
-
-// What group i of four bytes encodes.
-pub fn decode_at(calls: &[u8], i: usize) -> Decoded
-    requires { ⌜ i < length (now calls) / callBytes ⌝ }
-    ensures { λ r. ⌜ r ≡ decodeAt (now (calls .entry)) i ⌝ }
-{
-    let start = CALL_BYTES * i;
-    let kind = byte_at(calls, start);
-    let row = byte_at(calls, start + 1);
-    let column = byte_at(calls, start + 2);
-    decode(kind, row, column, byte_at(calls, start + 3))
-}
-
-// 1 for right, else 0.
-fn verdict(right: bool) -> u8
-    ensures { λ r. ⌜ r ≡ bit right ⌝ }
-{
-    if right {
-        return 1;
-    }
-    0
-}
-
-// Writes an answer behind `index` others.
-pub fn write_answer(answers: &mut [u8], index: usize, r: Refusal, right: bool)
-    requires { ⌜ index < length (now answers) / callBytes ⌝ }
-    ensures { λ _. ⌜ now (answers .exit) ≡ over (now (answers .entry)) (callBytes * index) (answerBytes (said r right)) ⌝ }
-{
-    let start = CALL_BYTES * index;
-    answers[start] = r.number;
-    answers[start + 1] = (r.place % 256) as u8;
-    answers[start + 2] = (r.place / 256 % 256) as u8;
-    answers[start + 3] = verdict(right);
 }
 
 // How many calls are run: as many as there are whole groups of four in both.

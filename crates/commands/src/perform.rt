@@ -6,8 +6,6 @@ use files::disk::save;
 use files::load::load;
 use journal::CHECK_MEMORY;
 use journal::JOURNAL_BYTES;
-use journal::MAX_CHECKS;
-use journal::MAX_MOVES;
 use journal::slots::slot_at;
 use play::checks::check;
 use play::moves::erase;
@@ -28,8 +26,8 @@ use print::words::explain;
 use puzzle::answer::refusal;
 use puzzle::digit_at;
 use readings::read::reading;
+use record::RECORD_BYTES;
 use record::write::write;
-use sudoku::CELLS;
 use sudoku::cell_of;
 use texts::Command;
 use texts::commands::NO_NUMBER;
@@ -37,9 +35,6 @@ use texts::commands::value;
 use texts::part;
 use undo::redo;
 use undo::undo;
-
-// The most bytes of a record: 80 givens and the moves at four bytes, the undone count at three, the checks at six.
-const RECORD_BYTES: usize = 4 * (CELLS - 1) + 4 * MAX_MOVES + 3 + 6 * MAX_CHECKS;
 
 // What the commands of play want.
 fn wanted_of_play(verb: u8) {

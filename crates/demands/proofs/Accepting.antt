@@ -1,4 +1,5 @@
--- What an accepted reopening says: the bytes are a record whose givens open, whose moves play, whose undone count fits, and whose checks are admitted.
+-- What an accepted reopening says: the bytes are a record whose givens open,
+-- whose moves play, whose undone count fits, and whose checks are admitted.
 -- Assumes nothing.
 use Prim.Native.Nat.{ℕ}
 use mathlib.Core.Path.{_≡_, refl, sym, ap, subst, _∙_}

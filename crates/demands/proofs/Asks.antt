@@ -1,5 +1,5 @@
--- Numbers 31 to 33: reopening admits the checks of a record exactly where each is on the grid and no given's, of a digit, after a move, and not a
--- right digit where one cell was to play.
+-- Numbers 31 to 33: reopening admits the checks of a record exactly where each is on the grid
+-- and no given's, of a digit, after a move, and not a right digit where one cell was to play.
 -- Assumes nothing.
 use Prim.Native.Nat.{ℕ, suc}
 use mathlib.Core.Path.{_≡_, refl, _∙_}

@@ -1,5 +1,5 @@
--- For a record that reopening accepts, calls from the fresh board that make a book of its moves, its undone count and its checks: a line of play for each
--- check, undone again, then the moves, then as many undone.
+-- For a record that reopening accepts, calls from the fresh board that make a book of its moves, its undone
+-- count and its checks: a line of play for each check, undone again, then the moves, then as many undone.
 -- Assumes nothing.
 use Prim.Native.Nat.{ℕ, zero, suc, _+_, _-_, _≤_, _<_}
 use mathlib.Core.Path.{_≡_, refl, sym, ap, _∙_}

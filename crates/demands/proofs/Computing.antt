@@ -1,4 +1,5 @@
--- The definitions that the twelve positions compute, from the grid to the calls. A proof that names `computing` on its `unfolding` line opens them all.
+-- The definitions that the twelve positions compute, from the grid to the
+-- calls. A proof that names `computing` on its `unfolding` line opens them all.
 -- Assumes nothing.
 use Prim.Native.Nat.{ℕ}
 use Rattle.puzzle.specs.Givens.{isGiven}

@@ -1,5 +1,6 @@
--- Demand 3, proved: opening returns the fresh board, every answer is the book's, the board and the memory hold the book, what is written is the book's
--- record and reopens to all of these; and bytes reopen exactly when some list of calls writes them.
+-- Demand 3, proved: opening returns the fresh board, every answer is the book's, the
+-- board and the memory hold the book, what is written is the book's record and reopens
+-- to all of these; and bytes reopen exactly when some list of calls writes them.
 -- Assumes nothing.
 use Prim.Native.Nat.{ℕ, _+_, _-_, _≤_}
 use mathlib.Core.Path.{_≡_, refl, sym, ap, subst, _∙_}

@@ -1,5 +1,7 @@
--- Position k: mark 1 at (1,1) is written and struck in turn until the journal's 1,024 slots are full, by induction over the turns.
--- After each turn the board is the opened one again but for its counts, and the latest slot is the strike's; so the next turn goes like the first.
+-- Position k: mark 1 at (1,1) is written and struck in turn until
+-- the journal's 1,024 slots are full, by induction over the turns.
+-- After each turn the board is the opened one again but for its counts, and
+-- the latest slot is the strike's; so the next turn goes like the first.
 -- Assumes nothing.
 use Prim.Native.Nat.{ℕ, zero, suc, _+_, _-_, _*_, _≤_, _<_}
 use mathlib.Core.Path.{_≡_, refl, sym, ap, _∙_}
@@ -83,7 +85,8 @@ struck n journal h l =
     play-by (withNote 2 n) journal (StrikeMark 1 1 1) 0 l (marked-is-board n (omega arith)) (λ i. pick (not-full n h i) 15 0)
     ∙ (λ i. played accepted (moved (withNote 0 n) (stateOf (withNote 0 n)) (recorded-one n n (omega arith) h i)) (over journal (slotBytes * n) (bytesOf (slot 5))))
 
--- a session with this board and journal and no check stored, and the numbers that a call's answer and the calls after it give
+-- a session with this board and journal and no check stored, and
+-- the numbers that a call's answer and the calls after it give
 unfoldable with : Board → List ℕ → Session
 with b journal = record { board = b; journal = journal; checks = noChecks }
 

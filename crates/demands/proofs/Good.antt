@@ -1,5 +1,5 @@
--- What holds of every book: its givens open, its moves play, its counts are within the limits, a solved position is the last, and its checks are
--- those that reopening admits. A new book has it, and every call keeps it.
+-- What holds of every book: its givens open, its moves play, its counts are within the limits, a solved position
+-- is the last, and its checks are those that reopening admits. A new book has it, and every call keeps it.
 -- Assumes nothing.
 use Prim.Native.Nat.{ℕ, _+_, _-_, _≤_}
 use mathlib.Core.Path.{_≡_, refl, sym, ap, subst, _∙_}
@@ -22,7 +22,7 @@ use Rattle.journal.specs.declared.Move.{Move}
 use Rattle.journal.specs.declared.Move.the-variants.{Place, Erase, WriteMark, StrikeMark}
 use Rattle.journal.specs.Limits.{maxMoves, maxChecks}
 use Rattle.journal.specs.State.{State, opening, digitAt, holdsPlayersDigit}
-use Rattle.journal.specs.StoredChecks.{Stored, isRight, judge}
+use Rattle.journal.specs.StoredChecks.{Stored, isRight}
 use Rattle.journal.proofs.Moves.{Fit}
 use Rattle.play.specs.Play.{moveTests}
 use Rattle.calls.specs.declared.Call.{Call}
@@ -35,8 +35,8 @@ use Rattle.demands.proofs.Refusals.{first-last, after-step, refused-mak
 use Rattle.demands.proofs.Reached.{reached-fit, reached-given, reached-is-given}
 use Rattle.demands.proofs.OneLeft.{right-solves}
 
--- a check that reopening admits: on the grid and no given's, a digit, after 1 to 1,024 moves, the verdict the solution's, and not a right digit where
--- one cell was to play
+-- a check that reopening admits: on the grid and no given's, a digit, after 1 to 1,024
+-- moves, the verdict the solution's, and not a right digit where one cell was to play
 pub record Admitted (givens : List Given) (solution : List ℕ) (c : Stored) : Type 0 where
   pub grid : onGrid (c .row) (c .column) ≡ true
   pub free : isGiven (opening givens .given) (cellOf (c .row) (c .column)) ≡ false

@@ -1,5 +1,5 @@
--- The board that holds what a book holds passes number 2's test; and what it means that lent memory holds a book's moves and checks: each slot is
--- read as it was written, and one move or one check more is held after it was laid over.
+-- The board that holds what a book holds passes number 2's test; and what it means that lent memory holds a book's
+-- moves and checks: each slot is read as it was written, and one move or one check more is held after it was laid over.
 -- Assumes nothing.
 use Prim.Native.Nat.{ℕ, _+_, _*_, _≤_, _<_}
 use mathlib.Core.Path.{_≡_, refl, sym, ap, _∙_}
@@ -10,7 +10,7 @@ use lib.ListN.{length, take, drop, length-append}
 use lib.Seq.{take-at, take-take, length-take-le}
 use lib.Dec.{eqb}
 use borrow.Author.Tests.{le-leb, eqb-true}
-use Rattle.sudoku.specs.Tests.{Test, _⇒_, first, both}
+use Rattle.sudoku.specs.Tests.{Test, first, both}
 use Rattle.puzzle.specs.Givens.{isGiven}
 use Rattle.puzzle.specs.Puzzle.{isFull, isConsistent}
 use Rattle.sudoku.proofs.Walks.{bit-le, both-true, by-test, every-of, no-if, not-is-false}

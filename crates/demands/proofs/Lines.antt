@@ -1,4 +1,5 @@
--- A line of play up to a check: from the fresh position, mark 1 written and struck in turn at the check's cell, then the digit placed there.
+-- A line of play up to a check: from the fresh position, mark 1 written
+-- and struck in turn at the check's cell, then the digit placed there.
 -- So a check with any standing count from 1 on can be asked, and undoing the line leaves the fresh position.
 -- Assumes nothing.
 use Prim.Native.Nat.{ℕ, zero, suc}

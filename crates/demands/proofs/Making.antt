@@ -1,5 +1,5 @@
--- Calls that make a given book: a record's moves one after the other, moves taken back, and for each stored check a line of play that
--- leads up to it and is undone afterwards.
+-- Calls that make a given book: a record's moves one after the other, moves taken back,
+-- and for each stored check a line of play that leads up to it and is undone afterwards.
 -- Assumes nothing.
 use Prim.Native.Nat.{ℕ, zero, suc, _+_, _-_, _≤_, _<_}
 use mathlib.Core.Path.{_≡_, refl, sym, ap, subst, _∙_}

@@ -1,4 +1,5 @@
--- Number 33: where one cell is to play, the right digit there solves the board; and a digit placed on the fresh position solves it only so.
+-- Number 33: where one cell is to play, the right digit there solves the
+-- board; and a digit placed on the fresh position solves it only so.
 -- Assumes nothing.
 use Prim.Native.Nat.{ℕ, _+_, _≤_}
 use mathlib.Core.Path.{_≡_, refl, sym, ap, _∙_}
@@ -116,7 +117,8 @@ module _ (gs : List Given) (solution : List ℕ) (o : Opens gs solution) where
         (λ t. omega (arith, range-to d range, ap (λ (x : ℕ). at (put (digitsOf gs) cell d) x) (eqb-true cell c t), here))
         (λ t. omega (arith, digit-elsewhere c pc (eqb-false cell c t), range-to (at solution c) (o .digits c pc)))
 
-    -- the solution's digit of the cell stands once in the cell's row: not at the cell, if another digit was placed, nor elsewhere, where it is a peer's
+    -- the solution's digit of the cell stands once in the cell's row: not at the
+    -- cell, if another digit was placed, nor elsewhere, where it is a peer's
     missing : (at solution cell ≡ d → ⊥) → (c : ℕ) → isCell c ≡ true
         → both (inUnit Row (unitOf Row cell) c) (eqb (at (put (digitsOf gs) cell d) c) (at solution cell)) ≡ false
     unfolding inUnit

@@ -1,5 +1,5 @@
--- What `Opens` says in the words of opening's tests, and so that they refuse nothing; what then holds of the givens and of the fresh state; and that
--- opening them returns the fresh board.
+-- What `Opens` says in the words of opening's tests, and so that they refuse nothing; what then
+-- holds of the givens and of the fresh state; and that opening them returns the fresh board.
 -- Assumes nothing.
 use Prim.Native.Nat.{ℕ, _%_}
 use mathlib.Core.Path.{_≡_, sym, _∙_}

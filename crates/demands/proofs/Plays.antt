@@ -1,5 +1,5 @@
--- Moves that play: each passes the tests of its call in the state before it. What follows for the moves before and after a place in the list,
--- for the slots that the moves fill, and for the counts.
+-- Moves that play: each passes the tests of its call in the state before it. What follows for the
+-- moves before and after a place in the list, for the slots that the moves fill, and for the counts.
 -- Assumes nothing.
 use Prim.Native.Nat.{ℕ, suc, _+_, _*_, _≤_, _<_, min}
 use mathlib.Core.Path.{_≡_, refl, sym, ap, subst, _∙_}

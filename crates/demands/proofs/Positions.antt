@@ -1,4 +1,5 @@
--- The twelve positions of document 01 hold. Each row computes but k, which goes by induction over its turns, in FullJournal.
+-- The twelve positions of document 01 hold. Each row computes
+-- but k, which goes by induction over its turns, in FullJournal.
 -- E and L are opened once: the rows that play them start from the fresh board that opening returns.
 -- Assumes nothing.
 use mathlib.Core.Path.{_≡_, refl, sym, ap, subst}

@@ -1,5 +1,5 @@
--- The states that moves reach: from a fit state they are fit, and unsolved on the way to an unsolved one; from the opening their givens are the puzzle's
--- and hold the solution's digits.
+-- The states that moves reach: from a fit state they are fit, and unsolved on the way to an
+-- unsolved one; from the opening their givens are the puzzle's and hold the solution's digits.
 -- Assumes nothing.
 use Prim.Native.Nat.{ℕ}
 use mathlib.Core.Path.{_≡_, refl, sym, ap, _∙_}

@@ -1,4 +1,5 @@
--- The theorem of readings, proved: slots 1 to n of a board that holds a book, applied to its givens, lead to the book's state after n moves.
+-- The theorem of readings, proved: slots 1 to n of a board that holds a
+-- book, applied to its givens, lead to the book's state after n moves.
 -- Assumes nothing.
 use Prim.Native.Nat.{ℕ, zero, suc, _+_, _-_, _≤_, _<_}
 use mathlib.Core.Path.{_≡_, sym, ap, subst, _∙_}
@@ -14,7 +15,7 @@ use Rattle.sudoku.specs.Tests.{pick, run, listed}
 use Rattle.sudoku.specs.Grid.{isCell, at}
 use Rattle.sudoku.proofs.Grid.{is-cell}
 use Rattle.sudoku.proofs.Listed.{length-listed, listed-at}
-use Rattle.sudoku.proofs.Walks.{by-test, not-is-false, pick-true, pick-false, run-last}
+use Rattle.sudoku.proofs.Walks.{by-test, pick-true, pick-false, run-last}
 use Rattle.puzzle.specs.declared.Refusal.{Refusal}
 use Rattle.puzzle.specs.Refusals.{refusal, accepted}
 use Rattle.puzzle.specs.Givens.{digitsOf, isGiven}
@@ -29,7 +30,7 @@ use Rattle.readings.specs.declared.Reading.{Reading}
 use Rattle.readings.specs.Reading.{openingOf, applySlot, stateAfter, readingRefusal, reading, readingOf}
 use Rattle.readings.proofs.Refused.{was-made, is-read}
 use Rattle.calls.specs.Session.{Session}
-use Rattle.demands.specs.Book.{Book, newBook, made, performAll, stateIn, keep, slotsIn}
+use Rattle.demands.specs.Book.{Book, newBook, made, performAll, stateIn, keep}
 use Rattle.demands.specs.Demand3.{boardIn}
 use Rattle.demands.specs.Readings.{stateAt, readSession, Reads, ReadsItself, ReadingsTheorem}
 use Rattle.demands.proofs.Plays.{moveNo, plays-take, plays-next, perform-next}

@@ -1,4 +1,5 @@
--- The book's refusals: all numbers in one list, the same number that the calls' own lists give; what an accepted call has passed; and a book's step.
+-- The book's refusals: all numbers in one list, the same number that the
+-- calls' own lists give; what an accepted call has passed; and a book's step.
 -- Assumes nothing.
 use Prim.Native.Nat.{ℕ}
 use mathlib.Core.Path.{_≡_, refl, sym, ap, subst, _∙_}
@@ -87,7 +88,8 @@ passes-allowed s (Erase row column) p = erase-passes s row column p
 passes-allowed s (WriteMark row column digit) p = write-passes s row column digit p
 passes-allowed s (StrikeMark row column digit) p = strike-passes s row column digit p
 
--- what passes: a digit put where no given and not this digit stands, a mark written where it is absent, a mark struck where it stands
+-- what passes: a digit put where no given and not this digit stands,
+-- a mark written where it is absent, a mark struck where it stands
 pub place-pass : (s : State) (row column digit : ℕ) → onGrid row column ≡ true → isOn (s .solved) ≡ false → isGiven (s .given) (cellOf row column) ≡ false
     → inRange digit ≡ true → eqb (digitAt s (cellOf row column)) digit ≡ false → Passes s (Place row column digit)
 unfolding Passes moveTests

@@ -1,4 +1,5 @@
--- A book's record reopens to the book: its board, the slots of its moves, its checks, zero beyond; whatever the lent memory held.
+-- A book's record reopens to the book: its board, the slots of its
+-- moves, its checks, zero beyond; whatever the lent memory held.
 -- Assumes nothing.
 use Prim.Native.Nat.{ℕ, _+_, _-_, _*_, _≤_, _<_}
 use mathlib.Core.Path.{_≡_, refl, sym, ap, subst, _∙_}
@@ -23,7 +24,7 @@ use Rattle.journal.specs.Limits.{slotBytes, journalBytes, checkMemory}
 use Rattle.journal.specs.Counts.{counts}
 use Rattle.journal.specs.Bytes.{over}
 use Rattle.journal.specs.State.{State, opening}
-use Rattle.journal.specs.StoredChecks.{Stored, judge, storedAll, judged}
+use Rattle.journal.specs.StoredChecks.{Stored, storedAll, judged}
 use Rattle.journal.proofs.Memory.{length-over, take-over-end}
 use Rattle.board.specs.declared.Board.{Board}
 use Rattle.board.specs.Board.{stateOf, countsOf, boardOf, fresh}

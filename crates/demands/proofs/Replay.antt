@@ -1,5 +1,5 @@
--- Reopening's replay: a record's moves performed on the fresh board fill the journal with their slots, and are accepted exactly where they play;
--- and taking back n moves of a book's board lowers its standing count by n.
+-- Reopening's replay: a record's moves performed on the fresh board fill the journal with their slots, and are
+-- accepted exactly where they play; and taking back n moves of a book's board lowers its standing count by n.
 -- Assumes nothing.
 use Prim.Native.Nat.{ℕ, zero, suc, _+_, _-_, _*_, _≤_, _<_}
 use mathlib.Core.Path.{_≡_, refl, sym, ap, _∙_}

@@ -1,5 +1,5 @@
--- The slots that moves fill, as a list: their bytes, their moves, and that each is sound. So a journal that begins with the bytes of a book's slots holds its moves,
--- and writing finds none of them unsound.
+-- The slots that moves fill, as a list: their bytes, their moves, and that each is sound. So a journal
+-- that begins with the bytes of a book's slots holds its moves, and writing finds none of them unsound.
 -- Assumes nothing.
 use Prim.Native.Nat.{ℕ, zero, suc, _+_, _*_, _<_}
 use mathlib.Core.Path.{_≡_, refl, sym, ap, _∙_}

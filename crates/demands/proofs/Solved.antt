@@ -1,4 +1,5 @@
--- Demand 2's theorem, proved: a board played from its opening is solved exactly when every row, column and box holds each of 1 to 9 once.
+-- Demand 2's theorem, proved: a board played from its opening is solved
+-- exactly when every row, column and box holds each of 1 to 9 once.
 -- Assumes nothing.
 use mathlib.Core.Path.{_≡_, sym, subst}
 use mathlib.Core.Logic.{_↔_}

@@ -1,4 +1,5 @@
--- Each call on the board that holds what a book holds: it answers what the book says, and leaves the board and the memory that hold the book after it.
+-- Each call on the board that holds what a book holds: it answers what the
+-- book says, and leaves the board and the memory that hold the book after it.
 -- Assumes nothing.
 use Prim.Native.Nat.{ℕ, _+_, _-_, _*_, _<_}
 use mathlib.Core.Path.{_≡_, refl, sym, ap, subst, _∙_}
@@ -11,7 +12,7 @@ use lib.ListN.{length, take, length-append}
 use lib.Seq.{take-all, length-take-le}
 use borrow.Author.Tests.{eq-eqb, ne-eqb, eqb-true, eqb-false, le-leb, lt-leb, leb-true}
 use Rattle.puzzle.specs.Givens.{isOn}
-use Rattle.sudoku.specs.Tests.{Test, _⇒_, first, pick, both}
+use Rattle.sudoku.specs.Tests.{_⇒_, first, pick, both}
 use Rattle.sudoku.proofs.Walks.{by-test, no-if, both-true, not-is-false, pick-true, pick-false, same-test}
 use Rattle.puzzle.specs.declared.Refusal.{Refusal}
 use Rattle.puzzle.specs.Refusals.{refusal, accepted}
@@ -24,7 +25,7 @@ use Rattle.journal.specs.Slots.{slotFor, bytesOf, slotAt, moveOf, isSound}
 use Rattle.journal.specs.StoredChecks.{storedBytes}
 use Rattle.journal.proofs.Moves.{Fit, Allowed, given-kept, performed-again, taken-back, stands-left, stands-found, slot-sound, move-kept}
 use Rattle.board.specs.declared.Answer.{Answer}
-use Rattle.board.specs.Board.{stateOf, countsOf, boardOf, moved, isBoard, lentTests}
+use Rattle.board.specs.Board.{stateOf, countsOf, boardOf, moved, lentTests}
 use Rattle.board.specs.Open.{answer}
 use Rattle.play.specs.Play.{Played, played, callTests, recordMove, playOf, slotRefusal, canTakeBack, undoBefore, undoTests, undone, undoOf, canRetake, redoBefore, redoTests, redone, redoOf}
 use Rattle.play.specs.Check.{CheckPlayed, checkTests, checkOn, checked, withCheck, checkOf}
@@ -37,7 +38,7 @@ use Rattle.demands.proofs.Plays.{Passes, moveNo, plays-take, plays-next
 use Rattle.demands.proofs.Refusals.{passes-unsolved, passes-allowed, refused-make, refused-undo, refused-redo, refused-check, step-taken, step-refused}
 use Rattle.demands.proofs.Reached.{reached-fit}
 use Rattle.demands.proofs.Good.{Good, make-room, undo-unsolved, undo-some, redo-some, check-room}
-use Rattle.demands.proofs.Held.{Held, good-board, held-slot, held-make, held-check, lent-passed}
+use Rattle.demands.proofs.Held.{Held, held-slot, held-make, held-check, lent-passed}
 
 -- the board that holds a book's, with memory
 abbrev pub sessionOf : Book → List ℕ → List ℕ → Session

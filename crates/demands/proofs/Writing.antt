@@ -1,4 +1,5 @@
--- A board that holds what a book holds, with memory that does, writes the book's record, whatever the output held; and a record has at most 5,955 bytes.
+-- A board that holds what a book holds, with memory that does, writes the book's
+-- record, whatever the output held; and a record has at most 5,955 bytes.
 -- Assumes nothing.
 use Prim.Native.Nat.{ℕ, _-_, _≤_}
 use mathlib.Core.Path.{_≡_, refl, sym, ap, _∙_}

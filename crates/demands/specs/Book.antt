@@ -1,5 +1,7 @@
--- The book of demand 3. It is kept from the givens, the solution and the calls alone, without the board and memory handed to them.
--- It cites what a move does to digits and notes, the layout of slots, stored checks and record items, and none of the calls' definitions.
+-- The book of demand 3. It is kept from the givens, the solution
+-- and the calls alone, without the board and memory handed to them.
+-- It cites what a move does to digits and notes, the layout of slots,
+-- stored checks and record items, and none of the calls' definitions.
 -- Assumes nothing.
 use Prim.Native.Nat.{ℕ, _+_, _-_}
 use mathlib.Core.Bool.{Bool, false, not}
@@ -139,7 +141,8 @@ journalFull k c = both (isOf (place ∷ erase ∷ writeMark ∷ strikeMark ∷ [
 unfoldable pub checksFull : Book → Call → Bool
 checksFull k c = both (isOf (check ∷ []) c) (eqb (length (k .checks)) maxChecks)
 
--- a call to which 3 to 13, 15 or 16 applies in the book is refused by the lowest; 0 where none applies. 4 applies to every call on a solved board
+-- a call to which 3 to 13, 15 or 16 applies in the book is refused by the
+-- lowest; 0 where none applies. 4 applies to every call on a solved board
 unfoldable pub refusedBy : Book → Call → ℕ
 refusedBy k c =
     let s = stateIn k in

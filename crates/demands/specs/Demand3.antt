@@ -1,8 +1,10 @@
--- Demand 3, the statement. For every solution, givens that open with it, memory of the lengths, and list of play calls from the fresh board:
--- opening returns the fresh board; every answer is the book's; the board, slots 1 to made and the stored checks hold the book's givens, digits, notes,
--- status, moves with what each displaced, standing count and checks; the bytes written are the book's record, whatever the output held;
--- with the same solution, into any memory of the lengths, they reopen to all of these.
--- And bytes reopen with a solution exactly when some givens open with it and some list of calls from their fresh board writes them.
+-- Demand 3, the statement. For every solution, givens that open with it, memory of the lengths, and list
+-- of play calls from the fresh board: opening returns the fresh board; every answer is the book's; the
+-- board, slots 1 to made and the stored checks hold the book's givens, digits, notes, status, moves with
+-- what each displaced, standing count and checks; the bytes written are the book's record, whatever the
+-- output held; with the same solution, into any memory of the lengths, they reopen to all of these.
+-- And bytes reopen with a solution exactly when some givens open
+-- with it and some list of calls from their fresh board writes them.
 -- The proof stands elsewhere. Assumes nothing.
 use Prim.Native.Nat.{ℕ, _*_, _%_, _<_, _≤_}
 use mathlib.Core.Path.{_≡_}

@@ -1,4 +1,5 @@
--- Givens open with a solution when none of 1, 19 and 22 to 27 applies. Stated in document 01's words, not by the tests of opening.
+-- Givens open with a solution when none of 1, 19 and 22 to 27 applies.
+-- Stated in document 01's words, not by the tests of opening.
 -- Assumes nothing.
 use Prim.Native.Nat.{ℕ, _<_}
 use mathlib.Core.Path.{_≡_}

@@ -1,7 +1,8 @@
 -- Demand 3 of bytes, the statement: what crate calls' run of encoded calls leaves and answers is what the book says.
--- The contract of calls::run::play equates the compiled code with that run, so this speaks of the code.
--- For givens that open with a solution, from the fresh board and memory of zeros: where every whole group of the bytes encodes a call
--- and the answers have room, the answers' bytes are the book's answers, and the board and the memory hold the book.
+-- The contract of pawdoku_play equates the compiled code with that run, so this speaks of the code.
+-- For givens that open with a solution, from the fresh board and memory of zeros:
+-- where every whole group of the bytes encodes a call and the answers have room, the
+-- answers' bytes are the book's answers, and the board and the memory hold the book.
 -- And every list of calls has bytes that encode it.
 -- The proof stands elsewhere. Assumes nothing.
 use Prim.Native.Nat.{ℕ, _*_, _≤_}

@@ -1,5 +1,6 @@
--- Readings on a board played from its opening, the statement: every move that was made is read, and its digits and notes are those of the book after that
--- move and no later one; the reading of the last standing move has the board's own digits and notes.
+-- Readings on a board played from its opening, the statement: every move that was made
+-- is read, and its digits and notes are those of the book after that move and no later
+-- one; the reading of the last standing move has the board's own digits and notes.
 -- The proof stands elsewhere. Assumes nothing.
 use Prim.Native.Nat.{ℕ, _≤_}
 use mathlib.Core.Path.{_≡_}

@@ -1,4 +1,5 @@
--- Demand 2's theorem, the statement: a board played from its opening is solved exactly when every row, column and box holds each of 1 to 9 once.
+-- Demand 2's theorem, the statement: a board played from its opening is
+-- solved exactly when every row, column and box holds each of 1 to 9 once.
 -- The proof stands elsewhere. Assumes nothing.
 use Prim.Native.Nat.{ℕ}
 use mathlib.Core.Path.{_≡_}

@@ -1,4 +1,5 @@
--- The loops over a list of cells: what a turn takes off each walk of specs/State and specs/InTurn over what is left of the list, `drop i cells`.
+-- The loops over a list of cells: what a turn takes off each walk of
+-- specs/State and specs/InTurn over what is left of the list, `drop i cells`.
 -- Assumes nothing.
 use Prim.Native.Nat.{ℕ, zero, suc, _+_, _-_, _*_, _/_, _%_, _≤_, _<_, _^_}
 use mathlib.Core.Path.{_≡_, refl, sym, ap, _∙_}
@@ -59,7 +60,8 @@ module _ (cells : List ℕ) (i : ℕ) (h : i < length cells) where
   in-turn-step change test notes after mask true r e q = rw (cells-left cells i h, e, q)
   in-turn-step change test notes after mask false r e q = refl
 
--- the loop that makes the mask comes from the end: after the turn that passes from i to i - 1 the mask is that of the cells from i - 1 on
+-- the loop that makes the mask comes from the end: after the turn that
+-- passes from i to i - 1 the mask is that of the cells from i - 1 on
 pub holders-turn : (notes cells : List ℕ) (d i mask : ℕ) → length cells ≡ 20 → 0 < i → i ≤ 20 → mask ≡ holders notes d (drop i cells)
     → bit (contains (at notes (getD cells (i - 1) 0)) d) + 2 * mask ≡ holders notes d (drop (i - 1) cells)
 unfolding holders

@@ -1,4 +1,5 @@
--- The laws of the journal's two counts: each of the three steps where it acts and where it changes nothing, that taking back and retaking undo each other, and the bounds that they keep.
+-- The laws of the journal's two counts: each of the three steps where it acts and where it
+-- changes nothing, that taking back and retaking undo each other, and the bounds that they keep.
 -- Assumes nothing.
 use Prim.Native.Nat.{ℕ, _+_, _-_, _≤_, _<_, min}
 use mathlib.Core.Path.{_≡_, ap, _∙_}

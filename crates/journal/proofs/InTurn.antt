@@ -1,4 +1,5 @@
--- Marks changed cell by cell, each asked before it is changed: where no cell stands twice, asked is what stood before anything was changed.
+-- Marks changed cell by cell, each asked before it is changed: where no
+-- cell stands twice, asked is what stood before anything was changed.
 -- Assumes nothing.
 use Prim.Native.Nat.{ℕ, suc, _/_, _<_}
 use mathlib.Core.Path.{_≡_, refl, _∙_}

@@ -1,5 +1,7 @@
--- Counts lent to a step of the journal and taken back, `let mut counts = c; step(&mut counts); counts`: one walk of its MIR, by hand, for any function `f` from counts to counts.
--- A lifetime is made, and the local is lent for it; the step is called; the lifetime is ended, and the local comes back at the last value that the step's contract says, `f` of the counts lent.
+-- Counts lent to a step of the journal and taken back, `let mut counts = c; step(&mut
+-- counts); counts`: one walk of its MIR, by hand, for any function `f` from counts to counts.
+-- A lifetime is made, and the local is lent for it; the step is called; the lifetime is ended, and
+-- the local comes back at the last value that the step's contract says, `f` of the counts lent.
 -- Assumes nothing.
 use mathlib.Core.Path.{_≡_, refl, sym, ap, subst}
 use Prim.Native.Nat.{ℕ}

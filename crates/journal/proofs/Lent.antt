@@ -1,5 +1,7 @@
--- A step of the journal on counts that are lent, `*c = step(*c);`: one walk of its MIR, by hand, for any function `f` from counts to counts and any function of the code that computes it.
--- The borrow is opened and the counts are read whole; the step is called with them; what it returns is stored over them, and the borrow is closed there. All that is known of the step is that it meets its contract, `r ≡ f c`.
+-- A step of the journal on counts that are lent, `*c = step(*c);`: one walk of its MIR, by hand,
+-- for any function `f` from counts to counts and any function of the code that computes it.
+-- The borrow is opened and the counts are read whole; the step is called with them; what it returns is stored over
+-- them, and the borrow is closed there. All that is known of the step is that it meets its contract, `r ≡ f c`.
 -- Assumes nothing.
 use mathlib.Core.Path.{_≡_, refl}
 use Prim.Native.Nat.{ℕ}
@@ -110,7 +112,8 @@ module _ (f : Counts → Counts) {M : Type 1} (𝓤 : URA M) (H : Heap 𝓤) (A 
         enter ! C Λ (lent step) (vptr b o ∷ []) _ $
         alloc1 ! (λ l₀. alloc1 ! (λ l₁. alloc1 ! (λ l₂. alloc1 ! (λ l₃. alloc0 ! $ params1 ! $ pass1 ! (init ! 4 refl (tt, tt)) $ pass0 ! $
         move ! (8 ∷ 9 ∷ 10 ∷ []) $ opens ! tt T.the-row {h = h} b o (λ vs. spelt ! T.the-row (Is T.the-row) (shows 𝓤 H A T.the-row) vals (LL.tells T.the-type T′.the-laws) fullShare h vs b o $
-        -- the counts' cell; what they own; the open borrow; what observes the reference's value, and what holds it; then _3, _2, _1 and _0, each with what frees it
+        -- the counts' cell; what they own; the open borrow; what observes the reference's
+        -- value, and what holds it; then _3, _2, _1 and _0, each with what frees it
         move ! (1 ∷ []) $ peeks ! T.the-row (Is T.the-row) (shows 𝓤 H A T.the-row) h (vals h) (λ is.
         assigns ! (of-opd ! (load ! (from ! (hop ! (look ! 9 refl) (stop !))) (look-raw ! 1 refl))) (from ! (stop !)) (init ! 5 refl (LL.lawful T.the-type T′.the-laws 𝓤 H A W .typed h _ is .0)) $
         use1 W (raw (Value f 𝓤 H A .pre (to (mach h)))) (goes-to (mach h)) $

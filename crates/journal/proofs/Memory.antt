@@ -1,4 +1,5 @@
--- The laws of lent memory: bytes laid over it, parts of it, numbers of two and three bytes; slots and stored checks read back where they were written, and all others as they were.
+-- The laws of lent memory: bytes laid over it, parts of it, numbers of two and three bytes;
+-- slots and stored checks read back where they were written, and all others as they were.
 -- Assumes nothing.
 use Prim.Native.Nat.{ℕ, zero, suc, _+_, _-_, _*_, _^_, _≤_, _<_, min}
 use mathlib.Core.Path.{_≡_, refl, sym, ap, _∙_}

@@ -1,4 +1,5 @@
--- The laws of the four moves: what a state played from its opening keeps, and that a move taken back gives the state before it and a move performed again the state after it.
+-- The laws of the four moves: what a state played from its opening keeps, and that a move
+-- taken back gives the state before it and a move performed again the state after it.
 -- Assumes nothing.
 use Prim.Native.Nat.{ℕ, _-_, _^_, _≤_, _<_}
 use mathlib.Core.Path.{_≡_, refl, sym, ap, subst, _∙_}
@@ -28,7 +29,8 @@ use Rattle.journal.proofs.PeerCells.{peers-within, in-cells, in-peers}
 use Rattle.journal.proofs.Pointwise.{place-struck}
 use Rattle.journal.proofs.NoteCells.{isIn, Within, AreNotes, masked-in, masked-holders, holders-small, strike-at-mark, write-at-mark, length-strike-all, length-strike-at, length-write-at, strike-all-notes, strike-at-notes, write-at-notes, strike-again, write-back, every-masked, strike-written, write-struck}
 
--- what holds of every state played from its opening: 81 cells, digits 0 to 9, a digit in each given, notes of the marks 1 to 9, and the status that the digits have
+-- what holds of every state played from its opening: 81 cells, digits 0 to 9, a digit
+-- in each given, notes of the marks 1 to 9, and the status that the digits have
 pub record Fit (s : State) : Type 0 where
   pub given-81 : length (s .given) ≡ 81
   pub flags : (cell : ℕ) → isCell cell ≡ true → at (s .given) cell ≤ 1

@@ -1,5 +1,7 @@
--- What striking and writing a mark does to notes kept in a list, for any list of cells and a list of notes of any length: mark by mark and cell by cell.
--- The mask of those that have the mark; striking again what the mask names strikes the same; writing what the mask names gives the notes back.
+-- What striking and writing a mark does to notes kept in a list, for any list
+-- of cells and a list of notes of any length: mark by mark and cell by cell.
+-- The mask of those that have the mark; striking again what the mask names
+-- strikes the same; writing what the mask names gives the notes back.
 -- Assumes nothing.
 use Prim.Native.Nat.{ℕ, zero, suc, _+_, _*_, _/_, _%_, _^_, _≤_, _<_}
 use mathlib.Core.Path.{_≡_, refl, sym, ap, subst, _∙_}
@@ -268,7 +270,8 @@ written-joined false false a b = refl
 written-joined false true true b = refl
 written-joined false true false b = refl
 
--- a mark stands after striking at all the cells where it stood, unless it is the mark struck and the place one of the cells
+-- a mark stands after striking at all the cells where it stood,
+-- unless it is the mark struck and the place one of the cells
 pub strike-all-mark : (notes : List ℕ) (d : ℕ) (cells : List ℕ) (n m : ℕ) → Within (length notes) cells → 1 ≤ n
     → contains (at (strikeAll notes d cells) n) m ≡ both (contains (at notes n) m) (not (both (eqb m d) (isIn n cells)))
 unfolding strikeAll isIn

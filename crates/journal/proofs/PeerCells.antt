@@ -1,4 +1,5 @@
--- The twenty peers of a cell as a list of note cells: each is one of the 81, none stands there twice, and a cell is among them exactly where it is a peer.
+-- The twenty peers of a cell as a list of note cells: each is one of the 81,
+-- none stands there twice, and a cell is among them exactly where it is a peer.
 -- Assumes nothing.
 use Prim.Native.Nat.{ℕ, _/_, _%_, _^_, _<_}
 use mathlib.Core.Path.{_≡_, subst}

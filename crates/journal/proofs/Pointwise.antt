@@ -1,5 +1,6 @@
 -- What each move does to each digit and each mark: performed, taken back, and performed again from its slot.
--- Stated for every cell n and every mark m, so that nothing else can change: of a placement, mark m stands at cell n afterwards exactly where it stood before and it is not the placed digit at a peer of the target.
+-- Stated for every cell n and every mark m, so that nothing else can change: of a placement, mark m stands
+-- at cell n afterwards exactly where it stood before and it is not the placed digit at a peer of the target.
 -- Assumes nothing.
 use Prim.Native.Nat.{ℕ, _/_, _%_, _^_, _≤_, _<_}
 use mathlib.Core.Path.{_≡_, refl, sym, ap, subst, _∙_}

@@ -1,4 +1,5 @@
--- The laws of slots that the code rests on: where the journal ends before a slot, and which of the kinds a test of the kind byte leaves.
+-- The laws of slots that the code rests on: where the journal ends
+-- before a slot, and which of the kinds a test of the kind byte leaves.
 -- Assumes nothing.
 use Prim.Native.Nat.{ℕ, _+_, _≤_}
 use mathlib.Core.Path.{_≡_, refl, sym, _∙_}

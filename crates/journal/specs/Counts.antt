@@ -9,7 +9,8 @@ use Rattle.journal.specs.Limits.{maxMoves}
 abbrev pub counts : ℕ → ℕ → Counts
 counts made standing = record { made = made; standing = standing }
 
--- recording drops all moves after standing, adds one, and both counts equal the new length; nothing where standing is at or above the limit
+-- recording drops all moves after standing, adds one, and both counts
+-- equal the new length; nothing where standing is at or above the limit
 unfoldable pub recorded : Counts → Counts
 recorded c =
     let n = min (c .made) (c .standing) + 1 in

@@ -1,5 +1,6 @@
 -- Marks changed cell by cell, each asked before it is changed, as the loops of undo and redo go.
--- Of the peers of a cell, none of which stands twice, and of a digit this asks what `everyMasked` of specs/State asks before anything is changed (proofs/InTurn).
+-- Of the peers of a cell, none of which stands twice, and of a digit this asks what
+-- `everyMasked` of specs/State asks before anything is changed (proofs/InTurn).
 -- Assumes nothing.
 use Prim.Native.Nat.{ℕ, _/_}
 use mathlib.Core.Bool.{Bool, true, not}

@@ -1,4 +1,5 @@
--- The kind bytes of document 01 (journal.rs, record.rs): of moves in slots and in records, and of a record's other items. Each number has one place.
+-- The kind bytes of document 01 (journal.rs, record.rs): of moves in slots
+-- and in records, and of a record's other items. Each number has one place.
 -- Assumes nothing.
 use Prim.Native.Nat.{ℕ}
 

@@ -1,4 +1,5 @@
--- Slots of document 01 (journal.rs): move n is slot n, eight bytes: kind, row, column, digit, digit before, and three bytes, low first, of the mask.
+-- Slots of document 01 (journal.rs): move n is slot n, eight bytes: kind,
+-- row, column, digit, digit before, and three bytes, low first, of the mask.
 -- The layout is read and written here and nowhere else.
 -- Assumes nothing.
 use Prim.Native.Nat.{ℕ, _+_, _-_, _*_, _^_}
@@ -94,7 +95,8 @@ isSound given slot =
     (either (both (eqb (slot .kind) eraseKind) (soundErase slot))
     (both (either (eqb (slot .kind) writeKind) (eqb (slot .kind) strikeKind)) (soundMark slot))))
 
--- what a slot's move does to the digit of its cell: a place puts its digit there, an erase empties it, and a mark changes no digit
+-- what a slot's move does to the digit of its cell: a place puts
+-- its digit there, an erase empties it, and a mark changes no digit
 unfoldable pub digitChange : Slot → DigitChange
 digitChange slot =
     pick (eqb (slot .kind) placeKind) (Put (slot .before) (slot .digit)) (pick (eqb (slot .kind) eraseKind) (Put (slot .before) 0) None)

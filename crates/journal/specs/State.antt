@@ -1,5 +1,7 @@
--- What a move does (board.rs, note.rs): the four moves performed, what each displaces, the same move performed again from its slot, and taken back.
--- A state is what the moves read and change: which cells are givens, the 81 digits, the 81 notes, and the status. Flags are 1 for yes and 0 for no.
+-- What a move does (board.rs, note.rs): the four moves performed, what each
+-- displaces, the same move performed again from its slot, and taken back.
+-- A state is what the moves read and change: which cells are givens, the 81 digits, the 81 notes, and the status.
+-- Flags are 1 for yes and 0 for no.
 -- Assumes nothing.
 use Prim.Native.Nat.{ℕ, _+_, _*_, _/_, _%_}
 use mathlib.Core.Bool.{Bool, true, not}
@@ -112,7 +114,8 @@ kindOf (WriteMark row column digit) = writeKind
 kindOf (StrikeMark row column digit) = strikeKind
 
 -- a move performed.
--- Place sets the digit and strikes it from the kept note of every peer that has it, filled peers too; the target's own note stays.
+-- Place sets the digit and strikes it from the kept note of every
+-- peer that has it, filled peers too; the target's own note stays.
 -- Erase empties the cell and touches no note
 unfoldable pub perform : State → Move → State
 perform s (Place row column digit) =
@@ -122,7 +125,8 @@ perform s (Erase row column) = putDigit s (cellOf row column) 0
 perform s (WriteMark row column digit) = withNotes s (writeAt (s .notes) (cellOf row column) digit)
 perform s (StrikeMark row column digit) = withNotes s (strikeAt (s .notes) (cellOf row column) digit)
 
--- what a move displaced: the digit before (0 for none and for marks), and the mask of the peers' marks that it strikes when performed (0 unless place)
+-- what a move displaced: the digit before (0 for none and for marks), and the
+-- mask of the peers' marks that it strikes when performed (0 unless place)
 unfoldable pub before : State → Move → ℕ
 before s (Place row column digit) = digitAt s (cellOf row column)
 before s (Erase row column) = digitAt s (cellOf row column)

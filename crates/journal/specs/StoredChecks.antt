@@ -1,4 +1,5 @@
--- Stored checks of document 01 (check.rs): check n is the nth six bytes of the check memory. The layout is read and written here and nowhere else.
+-- Stored checks of document 01 (check.rs): check n is the nth six bytes of
+-- the check memory. The layout is read and written here and nowhere else.
 -- Assumes nothing.
 use Prim.Native.Nat.{ℕ, _+_, _-_, _*_}
 use mathlib.Core.Bool.{Bool}
@@ -35,7 +36,8 @@ judged solution c = stored c (isRight solution (cellOf (c .row) (c .column)) (c 
 abbrev pub judge : List ℕ → ℕ → ℕ → ℕ → ℕ → Stored
 judge solution standing row column digit = judged solution (record { standing = standing; row = row; column = column; digit = digit })
 
--- its six bytes: standing (two, low first), row, column, digit, verdict (1 when the digit equals the solution's, else 0)
+-- its six bytes: standing (two, low first), row, column, digit,
+-- verdict (1 when the digit equals the solution's, else 0)
 unfoldable pub storedBytes : Stored → List ℕ
 storedBytes c = low (c .standing) ∷ second (c .standing) ∷ c .row ∷ c .column ∷ c .digit ∷ bit (c .right) ∷ []
 
@@ -65,7 +67,8 @@ askedAt checks n =
 unfoldable pub storedAt : List ℕ → ℕ → Stored
 storedAt checks n = stored (askedAt checks n) (eqb (verdictByte checks n) 1)
 
--- a stored check is sound when standing is 1 to 1,024, the digit 1 to 9, the verdict 0 or 1, and row and column are on the grid and no given's
+-- a stored check is sound when standing is 1 to 1,024, the digit 1 to 9,
+-- the verdict 0 or 1, and row and column are on the grid and no given's
 unfoldable pub soundStored : List ℕ → Asked → ℕ → Bool
 soundStored given c verdict =
     both (isFree given (c .row) (c .column))

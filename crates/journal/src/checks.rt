@@ -1,4 +1,5 @@
-// Stored checks: check n is the nth six bytes of the lent check memory. The layout is read and written here and nowhere else.
+// Stored checks: check n is the nth six bytes of the lent check
+// memory. The layout is read and written here and nowhere else.
 use crate::Asked;
 use crate::CHECK_BYTES;
 use crate::MAX_MOVES;

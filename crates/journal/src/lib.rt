@@ -1,11 +1,13 @@
-// The journal (board/journal.rs of the original): the four moves, what each one displaces, slots of eight bytes, and the two counts.
+// The journal (board/journal.rs of the original): the four moves,
+// what each one displaces, slots of eight bytes, and the two counts.
 
 pub mod checks;
 pub mod notes;
 pub mod slots;
 pub mod steps;
 
-// The kind bytes: of a given, the four moves, the count of undone moves, and a check. Moves have theirs in slots and in records, the others in records.
+// The kind bytes: of a given, the four moves, the count of undone moves, and
+// a check. Moves have theirs in slots and in records, the others in records.
 pub const GIVEN: u8 = 1;
 
 pub const PLACE: u8 = 2;
@@ -41,7 +43,8 @@ pub enum Move {
     StrikeMark { row: u8, column: u8, digit: u8 },
 }
 
-// A slot, read: the move's four bytes, the digit before, and the mask of the peers that lost the mark, bit i for peer i of the target.
+// A slot, read: the move's four bytes, the digit before, and the mask
+// of the peers that lost the mark, bit i for peer i of the target.
 pub struct Slot {
     pub kind: u8,
     pub row: u8,
@@ -59,7 +62,8 @@ pub struct Asked {
     pub digit: u8,
 }
 
-// What a move does to the digit of its cell: the digit that stood before and the one that stands after, 0 for an empty cell. A mark changes none.
+// What a move does to the digit of its cell: the digit that stood before
+// and the one that stands after, 0 for an empty cell. A mark changes none.
 pub enum DigitChange {
     Put { before: u8, after: u8 },
     None,

@@ -1,4 +1,5 @@
-// What moves do to the kept notes: 81 of them, row by row. Notes change in place. The loops go over cells that the caller hands over, so the peers of a cell are asked for once; a cell that the grid does not have changes nothing.
+// What moves do to the kept notes: 81 of them, row by row. Notes change in place. The loops go over cells that the
+// caller hands over, so the peers of a cell are asked for once; a cell that the grid does not have changes nothing.
 use note::contains;
 use note::power;
 use note::with;
@@ -73,7 +74,8 @@ fn with_bit(mask: u32, note: u16, digit: u8) -> u32
     2 * mask
 }
 
-// The mask of the cells whose note has the mark `digit`: bit i for cell i. The last cell's bit is the highest, so it is found first.
+// The mask of the cells whose note has the mark `digit`: bit i for
+// cell i. The last cell's bit is the highest, so it is found first.
 pub fn holders(notes: &[u16; 81], digit: u8, cells: [u8; 20]) -> u32
     ensures { λ r. ⌜ (r ≡ holdersOf (now (notes .entry)) digit cells) × (r < 2 ^ 20) ⌝ }
 {
@@ -86,14 +88,16 @@ pub fn holders(notes: &[u16; 81], digit: u8, cells: [u8; 20]) -> u32
     mask
 }
 
-// The value of the mark `digit` where the lowest bit of the mask is set, and 0 where it is not. No test of the bit is made: nothing foretells it.
+// The value of the mark `digit` where the lowest bit of the mask is set,
+// and 0 where it is not. No test of the bit is made: nothing foretells it.
 fn mark_if(digit: u8, mask: u32) -> u16
     ensures { λ r. ⌜ r ≡ pick (lowest mask) (powerOf digit) 0 ⌝ }
 {
     (mask % 2) as u16 * power(digit)
 }
 
-// The mark `digit` written at a cell where the lowest bit of the mask is set. Answered is whether the cell lacked it; yes where the bit is not set.
+// The mark `digit` written at a cell where the lowest bit of the mask is
+// set. Answered is whether the cell lacked it; yes where the bit is not set.
 fn write_if(notes: &mut [u16; 81], cell: usize, digit: u8, mask: u32) -> bool
     ensures { λ r. ⌜ (r ≡ either (not (lowest mask)) (lacks digit (at (now (notes .entry)) cell))) × (now (notes .exit) ≡ pick (lowest mask) (writeAt (now (notes .entry)) cell digit) (now (notes .entry))) ⌝ }
 {
@@ -108,7 +112,8 @@ fn write_if(notes: &mut [u16; 81], cell: usize, digit: u8, mask: u32) -> bool
     note & mark == 0
 }
 
-// The mark `digit` struck at a cell where the lowest bit of the mask is set. Answered is whether it was not missing there; yes where the bit is not set, and what is no digit is missing nowhere.
+// The mark `digit` struck at a cell where the lowest bit of the mask is set. Answered is whether
+// it was not missing there; yes where the bit is not set, and what is no digit is missing nowhere.
 fn strike_if(notes: &mut [u16; 81], cell: usize, digit: u8, mask: u32) -> bool
     ensures { λ r. ⌜ (r ≡ either (not (lowest mask)) (notMissing digit (at (now (notes .entry)) cell))) × (now (notes .exit) ≡ pick (lowest mask) (strikeAt (now (notes .entry)) cell digit) (now (notes .entry))) ⌝ }
 {
@@ -123,7 +128,8 @@ fn strike_if(notes: &mut [u16; 81], cell: usize, digit: u8, mask: u32) -> bool
     note & mark == mark
 }
 
-// The mark `digit` written into those of the cells whose bit is set in the mask, and no others. Answered is whether each of them lacked it when its turn came.
+// The mark `digit` written into those of the cells whose bit is set in the mask,
+// and no others. Answered is whether each of them lacked it when its turn came.
 pub fn write_masked_in(notes: &mut [u16; 81], digit: u8, mask: u32, cells: &[u8; 20]) -> bool
     ensures { λ r. ⌜ (r ≡ lackInTurn (now (notes .entry)) digit mask (now (cells .entry))) × (now (notes .exit) ≡ writeMasked (now (notes .entry)) digit mask (now (cells .entry))) ⌝ }
 {
@@ -140,7 +146,8 @@ pub fn write_masked_in(notes: &mut [u16; 81], digit: u8, mask: u32, cells: &[u8;
     ok
 }
 
-// The mark `digit` struck from those of the cells whose bit is set in the mask. Answered is whether it was missing in none of them when its turn came.
+// The mark `digit` struck from those of the cells whose bit is set in the
+// mask. Answered is whether it was missing in none of them when its turn came.
 pub fn strike_masked_in(notes: &mut [u16; 81], digit: u8, mask: u32, cells: &[u8; 20]) -> bool
     ensures { λ r. ⌜ (r ≡ noneMissingInTurn (now (notes .entry)) digit mask (now (cells .entry))) × (now (notes .exit) ≡ strikeMasked (now (notes .entry)) digit mask (now (cells .entry))) ⌝ }
 {

@@ -189,7 +189,8 @@ fn sound_mark(slot: Slot) -> bool
     slot.struck == 0
 }
 
-// Whether a slot is sound: its kind is one of the four, its fields lie in that kind's ranges, and its cell is on the grid and no given's.
+// Whether a slot is sound: its kind is one of the four, its fields lie
+// in that kind's ranges, and its cell is on the grid and no given's.
 pub fn is_sound(given: &[u8; 81], slot: Slot) -> bool
     ensures { λ r. ⌜ r ≡ isSound (now (given .entry)) slot ⌝ }
 {

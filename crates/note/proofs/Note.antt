@@ -1,5 +1,5 @@
--- The laws of a note and its marks, for any note and any digits: writing and striking undo each other, change one mark only, change
--- nothing where there is nothing to do, and keep a note a note; and a note is no more than its marks.
+-- The laws of a note and its marks, for any note and any digits: writing and striking undo each other, change one mark
+-- only, change nothing where there is nothing to do, and keep a note a note; and a note is no more than its marks.
 -- Assumes nothing.
 use mathlib.Core.Path.{_≡_, refl, sym, ap, _∙_}
 use mathlib.Core.Logic.{_≢_}

@@ -1,26 +1,60 @@
 // An encoded list of calls, run: each call in its turn, on the board and memory that the last one left.
-// The calls are those that a host makes by themselves: a list is a chain of the exported functions.
+// A list is a chain of the exported functions, each handed what the last returned.
 use crate::played::pawdoku_check;
+use crate::played::pawdoku_erase;
+use crate::played::pawdoku_place;
 use crate::played::pawdoku_redo;
+use crate::played::pawdoku_strike_mark;
 use crate::played::pawdoku_undo;
+use crate::played::pawdoku_write_mark;
 use board::Answer;
 use board::Board;
 use board::Checked;
+use calls::CALL_BYTES;
 use calls::Call;
 use calls::Decoded;
 use calls::NO_CALL;
-use calls::encoded::decode_at;
+use calls::encoded::decode;
 use calls::encoded::groups;
-use calls::encoded::write_answer;
+use journal::Move;
+use journal::checks::verdict;
+use puzzle::Refusal;
 use puzzle::answer::accepted;
 use puzzle::answer::refusal;
+use puzzle::byte_at;
 ghost use mathlib.Core.Path.{_≡_};
 ghost use mathlib.Core.Bool.{false as no};
-ghost use Prim.Native.Nat.{_/_, _<_};
+ghost use Prim.Native.Nat.{_*_, _/_, _<_};
 ghost use lib.ListN.{length};
 ghost use Rattle.puzzle.specs.Refusals.{accepted as acceptedOf};
+ghost use Rattle.journal.specs.Bytes.{over};
+ghost use Rattle.play.specs.Play.{playOf};
 ghost use Rattle.calls.specs.Session.{callOf};
-ghost use Rattle.calls.specs.Encoded.{callBytes, session, judged, leaves, runOne, ran, runAt, runOf};
+ghost use Rattle.calls.specs.Encoded.{callBytes, said, decodeAt, answerBytes, session, judged, leaves, runOne, ran, runAt, runOf};
+
+// What group i of four bytes encodes.
+fn decode_at(calls: &[u8], i: usize) -> Decoded
+    requires { ⌜ i < length (now calls) / callBytes ⌝ }
+    ensures { λ r. ⌜ r ≡ decodeAt (now (calls .entry)) i ⌝ }
+{
+    let start = CALL_BYTES * i;
+    let kind = byte_at(calls, start);
+    let row = byte_at(calls, start + 1);
+    let column = byte_at(calls, start + 2);
+    decode(kind, row, column, byte_at(calls, start + 3))
+}
+
+// Writes an answer behind `index` others.
+fn write_answer(answers: &mut [u8], index: usize, r: Refusal, right: bool)
+    requires { ⌜ index < length (now answers) / callBytes ⌝ }
+    ensures { λ _. ⌜ now (answers .exit) ≡ over (now (answers .entry)) (callBytes * index) (answerBytes (said r right)) ⌝ }
+{
+    let start = CALL_BYTES * index;
+    answers[start] = r.number;
+    answers[start + 1] = (r.place % 256) as u8;
+    answers[start + 2] = (r.place / 256 % 256) as u8;
+    answers[start + 3] = verdict(right);
+}
 
 // The answer of a call that is no check: beside it the verdict is false.
 fn unjudged(answer: Answer) -> Checked
@@ -35,12 +69,37 @@ fn unjudged(answer: Answer) -> Checked
     }
 }
 
+// A move, by the call that makes it.
+fn make(board: Board, journal: &mut [u8], m: Move) -> Answer
+    ensures { λ r. ⌜ r ≡ playOf board (now (journal .entry)) m .answer ⌝ }
+    ensures { λ _. ⌜ now (journal .exit) ≡ playOf board (now (journal .entry)) m .journal ⌝ }
+{
+    match m {
+        Move::Place { row, column, digit } => pawdoku_place(board, journal, row, column, digit),
+        Move::Erase { row, column } => pawdoku_erase(board, journal, row, column),
+        Move::WriteMark { row, column, digit } => pawdoku_write_mark(
+            board,
+            journal,
+            row,
+            column,
+            digit,
+        ),
+        Move::StrikeMark { row, column, digit } => pawdoku_strike_mark(
+            board,
+            journal,
+            row,
+            column,
+            digit,
+        ),
+    }
+}
+
 // One call.
 fn call(board: Board, journal: &mut [u8], checks: &mut [u8], c: Call) -> Checked
     ensures { λ r. ⌜ leaves r (now (journal .exit)) (now (checks .exit)) ≡ callOf (session board (now (journal .entry)) (now (checks .entry))) c ⌝ }
 {
     match c {
-        Call::Make(m) => unjudged(play::moves::play(board, journal, m)),
+        Call::Make(m) => unjudged(make(board, journal, m)),
         Call::Undo => unjudged(pawdoku_undo(board, journal)),
         Call::Redo => unjudged(pawdoku_redo(board, journal)),
         Call::Check { row, column } => pawdoku_check(board, checks, row, column),

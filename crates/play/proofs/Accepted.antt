@@ -1,4 +1,5 @@
--- What the calls give where they are refused and where they are accepted, and what an accepted call has passed: where its slot or its check goes, the memory has room.
+-- What the calls give where they are refused and where they are accepted, and what an
+-- accepted call has passed: where its slot or its check goes, the memory has room.
 -- Assumes nothing.
 use Prim.Native.Nat.{ℕ, _+_, _-_, _*_, _≤_, _<_}
 use mathlib.Core.Path.{_≡_, sym, ap, _∙_}

@@ -1,4 +1,5 @@
--- Laws for the number of a call that is found in two steps: where the first tests refuse, they decide, and where they pass, the others do.
+-- Laws for the number of a call that is found in two steps: where the
+-- first tests refuse, they decide, and where they pass, the others do.
 -- Assumes nothing.
 use Prim.Native.Nat.{ℕ, _≤_}
 use mathlib.Core.Path.{_≡_, refl, sym, _∙_}

@@ -1,4 +1,5 @@
--- A state of its parts: a function that is lent some of them says what it does whatever the others are. And a number found in two steps.
+-- A state of its parts: a function that is lent some of them says what
+-- it does whatever the others are. And a number found in two steps.
 -- Assumes nothing.
 use Prim.Native.Nat.{ℕ}
 use mathlib.Core.List.{List}

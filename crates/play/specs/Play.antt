@@ -1,4 +1,5 @@
--- The play calls of document 01 (board.rs, error.rs): place, erase, write mark, strike mark, undo, redo; and the latest and the next move.
+-- The play calls of document 01 (board.rs, error.rs): place, erase,
+-- write mark, strike mark, undo, redo; and the latest and the next move.
 -- Each call's refusals stand as a list of tests in the order of their numbers: the first that holds decides.
 -- A refused call leaves the board and the lent journal as they were.
 -- Assumes nothing.
@@ -142,7 +143,8 @@ redoOf b journal =
     let n = first (redoTests b journal) in
     pick (eqb n 0) (answer accepted (redone b (slotAt journal (b .standing + 1)))) (answer (slotRefusal n (b .standing + 1)) b)
 
--- the latest standing move: 1 2 12; the part of the lent journal that holds it, an empty part after a refusal. A solved board is no obstacle
+-- the latest standing move: 1 2 12; the part of the lent journal that
+-- holds it, an empty part after a refusal. A solved board is no obstacle
 unfoldable pub latestNumber : Board → List ℕ → ℕ
 latestNumber b journal = first (lentTests (eqb (length journal) journalBytes) b ((eqb (b .standing) 0 ⇒ 12) ∷ []))
 

@@ -1,6 +1,6 @@
 // The four moves: what each one does to the board, what it displaces, and how it is recorded.
-// A call works on the board of its answer in place, digits and notes one after the other: over both at once, or by value,
-// it takes 13 to 24 ns longer (docs/DECISIONS.md, 29).
+// A call works on the board of its answer in place, digits and notes one after the other:
+// over both at once, or by value, it takes 13 to 24 ns longer (docs/DECISIONS.md, 29).
 use crate::numbers::call_number;
 use crate::numbers::move_number;
 use board::Answer;
@@ -50,7 +50,8 @@ fn set_digit(digits: &mut [u8; 81], cell: usize, digit: u8)
     all[at] = digit;
 }
 
-// A digit put into a cell, in place, which settles the status that is answered; 0 empties the cell, which settles nothing.
+// A digit put into a cell, in place, which settles the status
+// that is answered; 0 empties the cell, which settles nothing.
 pub fn put_in(digits: &mut [u8; 81], solved: u8, cell: usize, digit: u8) -> u8
     ensures { λ r. ⌜ ((given notes : List ℕ) → (r ≡ putDigit (parts given (now (digits .entry)) notes solved) cell digit .solved) × (now (digits .exit) ≡ putDigit (parts given (now (digits .entry)) notes solved) cell digit .digits)) ⌝ }
 {
@@ -169,8 +170,9 @@ pub fn play(board: Board, journal: &mut [u8], m: Move) -> Answer
     answer
 }
 
-// A move performed and recorded on parts that are lent, in place; the status afterwards is answered. Reopening makes its moves so, one after the
-// other, and copies no board for a move; a call that lent its answer's digits and notes together would copy them first.
+// A move performed and recorded on parts that are lent, in place; the status afterwards
+// is answered. Reopening makes its moves so, one after the other, and copies no board for
+// a move; a call that lent its answer's digits and notes together would copy them first.
 pub fn make_in(
     digits: &mut [u8; 81],
     notes: &mut [u16; 81],

@@ -1,4 +1,5 @@
-// Why a move is refused: the numbers 3 to 11, each found by its own test, in their order, and the number of the whole call. 0 where nothing is refused.
+// Why a move is refused: the numbers 3 to 11, each found by its own test, in
+// their order, and the number of the whole call. 0 where nothing is refused.
 use board::cell::holds_players_digit;
 use journal::MAX_MOVES;
 use journal::Move;

@@ -1,4 +1,5 @@
-// The latest standing move and the next to redo, shown as the part of the lent journal that holds it; an empty part after a refusal.
+// The latest standing move and the next to redo, shown as the part
+// of the lent journal that holds it; an empty part after a refusal.
 // A solved board is no obstacle.
 use board::Board;
 use board::value::lent_number;

@@ -1,4 +1,5 @@
--- What follows where nothing is refused: of a test, of the first of two refusals, and of a walk; and that nothing is refused where each part is accepted.
+-- What follows where nothing is refused: of a test, of the first of two refusals,
+-- and of a walk; and that nothing is refused where each part is accepted.
 -- Assumes nothing.
 use Prim.Native.Nat.{ℕ, zero, suc, _+_, _≤_, _<_}
 use mathlib.Core.Path.{_≡_, refl, sym, ap, subst, _∙_}

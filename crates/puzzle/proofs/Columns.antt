@@ -1,5 +1,6 @@
 -- The laws of specs/Units: no digit stands twice in a column, a row or a box exactly where no cell conflicts.
--- Two peers stand in one column of the grid, or of the grid in one of the two orders, and two cells of such a column are peers: antt works both out over all cells.
+-- Two peers stand in one column of the grid, or of the grid in one of the two orders,
+-- and two cells of such a column are peers: antt works both out over all cells.
 -- Assumes nothing.
 use Prim.Native.Nat.{ℕ, _+_, _-_, _*_, _/_, _%_, _≤_, _<_}
 use mathlib.Core.Path.{_≡_, refl, sym, ap, _∙_}

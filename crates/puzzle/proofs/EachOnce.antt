@@ -1,4 +1,5 @@
--- The laws of specs/EachOnce: units are what peers share, and a grid is full and consistent exactly when every unit holds each of 1 to 9 once.
+-- The laws of specs/EachOnce: units are what peers share, and a grid is
+-- full and consistent exactly when every unit holds each of 1 to 9 once.
 -- A unit has nine cells, which antt counts; two of its cells are peers, and two peers stand in one unit of some kind.
 -- Assumes nothing.
 use Prim.Native.Nat.{ℕ, _+_, _≤_}

@@ -27,14 +27,16 @@ otherGrid = listed (λ cell. exchanged (digitG cell)) 81 1
 fives : ℕ → ℕ → List ℕ
 fives a b = put (put (replicate 81 0) a 5) b 5
 
--- The solution plays no part in the status: two grids with different digits at cell 1 are both solved. A grid with one empty cell is not, and a solved one stays solved.
+-- The solution plays no part in the status: two grids with different digits at cell 1
+-- are both solved. A grid with one empty cell is not, and a solved one stays solved.
 statuses : (at gridG 1 ≡ 1) × (at otherGrid 1 ≡ 2) × (settled gridG 0 ≡ 1) × (settled otherGrid 0 ≡ 1)
     × (settled (put gridG 81 0) 0 ≡ 0)
     × (settled (fives 1 2) 1 ≡ 1)
 unfolding gridG otherGrid digitG exchanged fives listed rowOf columnOf boxIndex pick at put settled isFull isConsistent conflicts holdsDigit isHeld every both either peersOf isCell among keep arePeers isPeerOf
 statuses = (refl, refl, refl, refl, refl, refl)
 
--- Cell 11 shares only the box with cell 1, and cell 73 is the last of its peers; cell 81 is none. Cells without a digit do not conflict. Cell 81 counts.
+-- Cell 11 shares only the box with cell 1, and cell 73 is the last of its peers;
+-- cell 81 is none. Cells without a digit do not conflict. Cell 81 counts.
 clashes : (conflicts (fives 1 11) 1 ≡ true) × (conflicts (fives 1 73) 1 ≡ true) × (conflicts (fives 1 81) 1 ≡ false) × (conflicts (fives 1 11) 2 ≡ false)
     × (isConsistent (fives 73 81) ≡ false)
     × (isFull (put gridG 81 0) ≡ false)

@@ -1,4 +1,5 @@
--- Givens that are read from bytes: the walks of the code over `listed` givens, and which givens stand in triples and in the items of a record.
+-- Givens that are read from bytes: the walks of the code over `listed`
+-- givens, and which givens stand in triples and in the items of a record.
 -- Assumes nothing.
 use Prim.Native.Nat.{ℕ, zero, suc, _+_, _-_, _*_, _/_, _≤_}
 use mathlib.Core.Path.{_≡_, refl, sym, ap, _∙_}

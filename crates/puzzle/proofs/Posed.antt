@@ -1,5 +1,6 @@
--- Opening's tests against what they mean: none of 19 and 22 to 27 applies exactly where the givens ascend, are fewer than 81, are on the grid and
--- match the solution, and the solution has a digit 1 to 9 at each cell and no two peers that are equal.
+-- Opening's tests against what they mean: none of 19 and 22 to 27 applies exactly
+-- where the givens ascend, are fewer than 81, are on the grid and match the solution,
+-- and the solution has a digit 1 to 9 at each cell and no two peers that are equal.
 -- Assumes nothing.
 use Prim.Native.Nat.{ℕ, suc, _≤_, _<_}
 use mathlib.Core.Path.{_≡_, refl, sym, ap, _∙_}

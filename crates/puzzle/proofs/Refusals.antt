@@ -1,4 +1,5 @@
--- The laws of specs/Refusals: the first of two that refuses, and what is left of a walk in which the first refused decides.
+-- The laws of specs/Refusals: the first of two that refuses, and
+-- what is left of a walk in which the first refused decides.
 -- A loop counts i up to e, which it does not reach, as in the laws of walks.
 -- Assumes nothing.
 use Prim.Native.Nat.{ℕ, zero, suc, _+_, _-_, _≤_, _<_}

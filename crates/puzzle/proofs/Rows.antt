@@ -1,4 +1,5 @@
--- The laws of nine rows of nine: read from some bytes and laid out again, they are those bytes; so opening's tests say of the rows what they say of the bytes.
+-- The laws of nine rows of nine: read from some bytes and laid out again, they
+-- are those bytes; so opening's tests say of the rows what they say of the bytes.
 -- Assumes nothing.
 use Prim.Native.Nat.{ℕ, suc, _+_, _-_, _*_, _/_, _%_, _≤_, _<_}
 use mathlib.Core.Path.{_≡_, refl, sym, ap, _∙_}

@@ -1,4 +1,5 @@
--- Rows, columns and boxes as units: nine of each kind, numbered 1 to 9; how often a unit holds a digit, and that each unit holds each digit once.
+-- Rows, columns and boxes as units: nine of each kind, numbered 1 to 9; how
+-- often a unit holds a digit, and that each unit holds each digit once.
 -- A list of digits has 81 entries, row by row; a digit of 0 means none.
 -- Assumes nothing.
 use Prim.Native.Nat.{ℕ, _+_, _-_, _*_}

@@ -25,7 +25,8 @@ triples (row ∷ column ∷ digit ∷ bytes) = given row column digit ∷ triple
 unfoldable pub givenFrom : List ℕ → ℕ → Given
 givenFrom bytes start = given (getD bytes start 0) (getD bytes (start + 1) 0) (getD bytes (start + 2) 0)
 
--- the given with index i, counted from 0, where the first starts at `start` and each other `step` bytes after the one before it
+-- the given with index i, counted from 0, where the first starts
+-- at `start` and each other `step` bytes after the one before it
 unfoldable pub givenAt : List ℕ → ℕ → ℕ → ℕ → Given
 givenAt bytes start step i = givenFrom bytes (start + step * i)
 

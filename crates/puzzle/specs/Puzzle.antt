@@ -26,7 +26,8 @@ isFull digits = every (holdsDigit digits) 81 1
 unfoldable pub isConsistent : List ℕ → Bool
 isConsistent digits = every (λ cell. not (conflicts digits cell)) 81 1
 
--- the status after a digit was put into a cell: 1, solved, if all 81 cells hold digits and none conflicts. Solved is final
+-- the status after a digit was put into a cell: 1, solved, if
+-- all 81 cells hold digits and none conflicts. Solved is final
 unfoldable pub settled : List ℕ → ℕ → ℕ
 settled digits solved = pick (both (isFull digits) (isConsistent digits)) 1 solved
 

@@ -1,4 +1,5 @@
--- Whether a digit stands twice in a unit, which is a row, a column or a box, said without peers: the grid is compared with itself, moved.
+-- Whether a digit stands twice in a unit, which is a row, a column or
+-- a box, said without peers: the grid is compared with itself, moved.
 -- A grid is a list of 81 entries, nine rows of nine; a digit of 0 means none.
 -- Assumes nothing.
 use Prim.Native.Nat.{ℕ, _+_, _-_, _*_, _/_, _%_}

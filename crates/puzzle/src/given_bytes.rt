@@ -76,7 +76,8 @@ pub fn is_ascending(bytes: &[u8], layout: Layout, count: usize) -> bool
     true
 }
 
-// The digits of a fresh board: each given's digit at its cell, 0 elsewhere. What is off the grid counts as cell 1; no such given comes this far.
+// The digits of a fresh board: each given's digit at its cell, 0 elsewhere.
+// What is off the grid counts as cell 1; no such given comes this far.
 pub fn put_givens(bytes: &[u8], layout: Layout, count: usize) -> [u8; 81]
     ensures { λ r. ⌜ r ≡ digitsOf (givensIn layout (now (bytes .entry)) count) ⌝ }
 {

@@ -1,4 +1,5 @@
-// The puzzle (sudoku/proof.rs and sudoku/puzzle.rs of the original): what a setter may pose, conflicts, and when a puzzle is solved.
+// The puzzle (sudoku/proof.rs and sudoku/puzzle.rs of the original):
+// what a setter may pose, conflicts, and when a puzzle is solved.
 use sudoku::CELLS;
 use sudoku::PEERS_PER_CELL;
 use sudoku::SIDE;
@@ -21,7 +22,8 @@ mod orders;
 mod units;
 pub mod vouch;
 
-// The answer of a call: its number in document 01, 0 where the call is accepted; place and inner are 0 where document 01 says nothing of them.
+// The answer of a call: its number in document 01, 0 where the call is
+// accepted; place and inner are 0 where document 01 says nothing of them.
 #[repr(C)]
 pub struct Refusal {
     pub number: u8,
@@ -37,7 +39,8 @@ pub struct Given {
     pub digit: u8,
 }
 
-// How givens stand in some bytes: three bytes each, one after the other, as opening gets them, or as the items of a record, each after its kind byte.
+// How givens stand in some bytes: three bytes each, one after the other, as
+// opening gets them, or as the items of a record, each after its kind byte.
 pub enum Layout {
     Triples,
     Items,
@@ -129,7 +132,8 @@ pub fn is_consistent(digits: &[u8; 81]) -> bool
     boxes_clear(digits)
 }
 
-// The status after a digit was put into a cell, 1 for solved. Solved is final; the full grid is the cheaper test and comes first.
+// The status after a digit was put into a cell, 1 for solved. Solved
+// is final; the full grid is the cheaper test and comes first.
 pub fn settled(digits: &[u8; 81], solved: u8) -> u8
     ensures { λ r. ⌜ r ≡ settledBy (now (digits .entry)) solved ⌝ }
 {

@@ -1,5 +1,6 @@
-// Whether a digit stands twice in a unit, which is a column, a row or a box. Two entries of one column stand 9, 18 and so on to 72 apart, so the columns are tested by comparing the grid
-// with itself, moved; rows and boxes are written as columns first. That is much faster than a walk over the peers of each cell, and says the same.
+// Whether a digit stands twice in a unit, which is a column, a row or a box. Two entries of one column stand 9,
+// 18 and so on to 72 apart, so the columns are tested by comparing the grid with itself, moved; rows and boxes
+// are written as columns first. That is much faster than a walk over the peers of each cell, and says the same.
 use crate::orders::BOXES;
 use crate::orders::ROWS;
 use sudoku::CELLS;
@@ -26,7 +27,8 @@ fn apart(clear: bool, digit: u8, other: u8) -> bool
     false
 }
 
-// Whether no two entries that stand `step` apart are the same digit. The loop has no early exit, so that it compares many entries at once.
+// Whether no two entries that stand `step` apart are the same digit.
+// The loop has no early exit, so that it compares many entries at once.
 fn step_clear(digits: &[u8; 81], step: usize) -> bool
     requires { ⌜ step ≤ 81 ⌝ }
     ensures { λ r. ⌜ r ≡ stepClear (now (digits .entry)) step ⌝ }

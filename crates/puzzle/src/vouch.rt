@@ -1,4 +1,5 @@
-// `WellPosed::vouch` of the original (sudoku/proof.rs), the reference for opening: numbers 22 to 27, and 19 before them.
+// `WellPosed::vouch` of the original (sudoku/proof.rs), the
+// reference for opening: numbers 22 to 27, and 19 before them.
 use crate::Given;
 use crate::Layout;
 use crate::Refusal;
@@ -82,7 +83,8 @@ fn all_digits(solution: &[u8]) -> bool
     ok
 }
 
-// 23 and 24: the first cell of the solution, in grid order, that is empty or holds something out of range. A solution that is too short is not full.
+// 23 and 24: the first cell of the solution, in grid order, that is empty or
+// holds something out of range. A solution that is too short is not full.
 // The solution is tested as a whole first; the walk is slower, and is made only where it has something to name.
 pub fn filled(solution: &[u8]) -> Refusal
     ensures { λ r. ⌜ r ≡ firstRefused (solutionDigit (now (solution .entry))) 81 1 ⌝ }
@@ -177,8 +179,8 @@ fn first_conflict(digits: &[u8; 81]) -> Refusal
     accepted()
 }
 
-// 25: whether two peers of the solution hold one digit; the first such pair in grid order. The solution is tested as a whole
-// first; the walk is slower, and is made only where it has something to name.
+// 25: whether two peers of the solution hold one digit; the first such pair in grid order. The solution
+// is tested as a whole first; the walk is slower, and is made only where it has something to name.
 pub fn consistent(rows: [[u8; 9]; 9]) -> Refusal
     ensures { λ r. ⌜ r ≡ firstRefused (solutionConflict (flatOf rows)) 81 1 ⌝ }
 {

@@ -1,4 +1,5 @@
--- The questions of document 01 (cell.rs, puzzle.rs, board.rs) and the keypad. Each has number 2 first, a position 3, a key 8.
+-- The questions of document 01 (cell.rs, puzzle.rs, board.rs) and
+-- the keypad. Each has number 2 first, a position 3, a key 8.
 -- What stands beside a refusal is 0 or false.
 -- Assumes nothing.
 use Prim.Native.Nat.{ℕ}
@@ -28,7 +29,8 @@ cellNumber b row column = first ((not (isBoard b) ⇒ 2) ∷ (not (onGrid row co
 unfoldable pub yesNo : ℕ → Bool → YesNo
 yesNo n holds = record { refusal = refusal n 0 0; holds = both (eqb n 0) holds }
 
--- the question for one cell: its digit, whether it is a given, whether it conflicts, its kept note and whether that is shown.
+-- the question for one cell: its digit, whether it is a given,
+-- whether it conflicts, its kept note and whether that is shown.
 -- A note under a digit is kept and not shown
 unfoldable pub cellAnswer : State → ℕ → CellAnswer
 cellAnswer s cell =

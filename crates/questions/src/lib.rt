@@ -1,5 +1,6 @@
-// The questions (board/cell.rs and parts of board.rs of the original): what a board shows. Each tests the board value (number 2) itself; one for a cell tests its position (3), the keypad's
-// its key (8). Beside a refusal stand zeros and false.
+// The questions (board/cell.rs and parts of board.rs of the original): what a board
+// shows. Each tests the board value (number 2) itself; one for a cell tests its
+// position (3), the keypad's its key (8). Beside a refusal stand zeros and false.
 use board::Board;
 use board::cell;
 use board::value::is_board;
@@ -126,7 +127,8 @@ fn cell_answer(board: Board, cell: usize) -> CellAnswer
     }
 }
 
-// The question for one cell: its digit, whether it is a given, whether it conflicts, its kept note and whether that is shown.
+// The question for one cell: its digit, whether it is a given,
+// whether it conflicts, its kept note and whether that is shown.
 pub fn cell(board: Board, row: u8, column: u8) -> CellAnswer
     ensures { λ r. ⌜ r ≡ cellQuestion board row column ⌝ }
 {

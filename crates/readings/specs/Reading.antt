@@ -1,5 +1,5 @@
--- Readings of document 01 (reading.rs, moves.rs): for move k its kind, target, digit, whether undone, its index,
--- and digits and notes after slots 1 to k are applied, as recorded, to the givens and empty notes. Refusals 1, 2, 14, 35.
+-- Readings of document 01 (reading.rs, moves.rs): for move k its kind, target, digit, whether undone, its index, and
+-- digits and notes after slots 1 to k are applied, as recorded, to the givens and empty notes. Refusals 1, 2, 14, 35.
 -- Assumes nothing.
 use Prim.Native.Nat.{ℕ}
 use mathlib.Core.Bool.{false, not}

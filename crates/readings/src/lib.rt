@@ -1,4 +1,5 @@
-// Reading back (board/reading.rs and board/moves.rs of the original): a move as the board hands it out, and the board as it stood once that move and no later one had been made.
+// Reading back (board/reading.rs and board/moves.rs of the original): a move as the board
+// hands it out, and the board as it stood once that move and no later one had been made.
 use puzzle::Refusal;
 
 pub mod read;

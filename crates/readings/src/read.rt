@@ -1,4 +1,5 @@
-// The reading of move k: what its slot holds, whether it is undone, and the board as it stood after it. Refused by 1 2 14 35.
+// The reading of move k: what its slot holds, whether it is undone,
+// and the board as it stood after it. Refused by 1 2 14 35.
 use crate::Reading;
 use crate::replay::after;
 use board::Board;

@@ -1,4 +1,5 @@
-// The board as it stood after slots 1 to k: its givens and empty notes, and then each slot applied as recorded. A place strikes the peers in its mask and no others.
+// The board as it stood after slots 1 to k: its givens and empty notes, and then each
+// slot applied as recorded. A place strikes the peers in its mask and no others.
 use board::Board;
 use journal::slots::is_given;
 use journal::slots::slot_at;

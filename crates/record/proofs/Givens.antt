@@ -1,4 +1,5 @@
--- The givens of a board are those it was opened with: each cell of a given is marked, holds its digit, and the cells rise.
+-- The givens of a board are those it was opened with: each cell
+-- of a given is marked, holds its digit, and the cells rise.
 -- Assumes nothing.
 use Prim.Native.Nat.{ℕ, zero, suc, _+_, _-_, _≤_, _<_}
 use mathlib.Core.Path.{_≡_, refl, sym, ap, _∙_}

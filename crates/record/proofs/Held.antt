@@ -1,4 +1,5 @@
--- What lent memory holds that begins with the bytes of slots, or of stored checks: the moves and the checks that writing reads there, and that none of them is unsound.
+-- What lent memory holds that begins with the bytes of slots, or of stored checks: the
+-- moves and the checks that writing reads there, and that none of them is unsound.
 -- Assumes nothing.
 use Prim.Native.Nat.{ℕ, suc, _+_, _-_, _*_, _^_, _≤_, _<_}
 use mathlib.Core.Path.{_≡_, refl, sym, ap, subst, _∙_}

@@ -1,4 +1,5 @@
--- Kind bytes: cases over the seven kinds, what each one decides, and the item that it begins, read at an offset of a record's bytes.
+-- Kind bytes: cases over the seven kinds, what each one decides, and
+-- the item that it begins, read at an offset of a record's bytes.
 -- Assumes nothing.
 use Prim.Native.Nat.{ℕ, suc, _+_, _-_, _≤_, _<_}
 use mathlib.Core.Path.{_≡_, refl, sym, ap, subst, _∙_}

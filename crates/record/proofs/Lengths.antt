@@ -10,16 +10,12 @@ use Rattle.journal.specs.declared.Move.{Move}
 use Rattle.journal.specs.declared.Move.the-variants.{Place, Erase, WriteMark, StrikeMark}
 use Rattle.journal.specs.Limits.{maxMoves, maxChecks, recordBytes}
 use Rattle.record.specs.declared.Item.{Item}
-use Rattle.record.specs.declared.Item.the-variants.{Given, Played, Undone, Check}
+use Rattle.record.specs.declared.Item.the-variants.{Played, Undone}
 use Rattle.journal.specs.declared.Asked.{Asked}
 use Rattle.record.specs.Items.{Parts, encode, encodeAll, givenItem, checkItem, recordOf}
 use Rattle.record.proofs.ReadBack.{items-grouped}
 
 -- ---- one item
-
-pub length-given : (row column digit : ℕ) → length (encode (Given row column digit)) ≡ 4
-unfolding encode
-length-given row column digit = refl
 
 -- an erase has three bytes, every other move four
 unfoldable pub moveBytes : Move → ℕ
@@ -41,14 +37,6 @@ move-bytes-le (Place row column digit) = omega arith
 move-bytes-le (Erase row column) = omega arith
 move-bytes-le (WriteMark row column digit) = omega arith
 move-bytes-le (StrikeMark row column digit) = omega arith
-
-pub length-undone : (n : ℕ) → length (encode (Undone n)) ≡ 3
-unfolding encode
-length-undone n = refl
-
-pub length-check : (standing row column digit : ℕ) → length (encode (Check standing row column digit)) ≡ 6
-unfolding encode
-length-check standing row column digit = refl
 
 -- ---- items, one after the other
 

@@ -9,3 +9,4 @@ pub mod Scanning
 pub mod ReadRecord
 pub mod Laying
 pub mod Writing
+pub mod Examples

@@ -1,4 +1,5 @@
--- Reading back what was written: where the undone count and the checks' standing counts fit two bytes, the bytes of a record's parts are well formed, and hold these parts.
+-- Reading back what was written: where the undone count and the checks' standing counts
+-- fit two bytes, the bytes of a record's parts are well formed, and hold these parts.
 -- Assumes nothing.
 use Prim.Native.Nat.{ℕ, zero, suc, _≤_, _<_}
 use mathlib.Core.Path.{_≡_, refl, ap, _∙_}

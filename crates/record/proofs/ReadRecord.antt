@@ -1,4 +1,5 @@
--- Reading a record before any move is performed, from what a scan of it answers: which of 17 to 27 is given, and that the givens stand in the bytes as items.
+-- Reading a record before any move is performed, from what a scan of it answers:
+-- which of 17 to 27 is given, and that the givens stand in the bytes as items.
 -- Assumes nothing.
 use Prim.Native.Nat.{ℕ}
 use mathlib.Core.Path.{_≡_, refl, sym, ap, _∙_}

@@ -1,15 +1,16 @@
--- What 17 to 27 ask of a record before any move is performed: the tests against what they mean, both ways. And 17's place: one more than the items that stand before.
+-- What 17 to 27 ask of a record before any move is performed: the tests against what
+-- they mean, both ways. And 17's place: one more than the items that stand before.
 -- Assumes nothing.
 use Prim.Native.Nat.{ℕ, suc, _+_, _≤_}
 use mathlib.Core.Path.{_≡_, refl, sym, ap, _∙_}
 use mathlib.Core.Bool.{true, false, not}
 use mathlib.Core.List.{List, [], _∷_}
 use native.Mathlib.Omega.{arith}
-use borrow.Author.Tests.{leb-true, le-leb, lt-leb, ltb-false, le-ltb, eqb-true, eq-eqb, not-false}
+use borrow.Author.Tests.{leb-true, le-leb, ltb-false, le-ltb, eqb-true, eq-eqb, not-false}
 use lib.Dec.{leb, ltb, eqb}
 use lib.ListN.{length}
-use Rattle.sudoku.specs.Tests.{pick, either}
-use Rattle.sudoku.proofs.Walks.{by-test, not-both-ways, not-is-false, either-left, either-false, either-false-left, either-false-right, both-true, both-false-left, both-false-right, pick-true, pick-false}
+use Rattle.sudoku.specs.Tests.{pick}
+use Rattle.sudoku.proofs.Walks.{by-test, not-both-ways, not-is-false, either-false, either-false-left, either-false-right, both-true, both-false-left, both-false-right, pick-true, pick-false}
 use Rattle.sudoku.proofs.Each.{Each}
 use Rattle.puzzle.specs.Refusals.{refusal, accepted, isAccepted, refusedIf}
 use Rattle.puzzle.specs.Givens.{ascending}
@@ -18,36 +19,8 @@ use Rattle.puzzle.proofs.Posed.{Vouched, vouched, vouches}
 use Rattle.journal.specs.Limits.{maxMoves, maxChecks}
 use Rattle.journal.specs.declared.Asked.{Asked}
 use Rattle.record.specs.Items.{Parts}
-use Rattle.record.specs.Scan.{Items, ended, cut, then, takeItem, byKind, body2, body3, body5, goOn, itemsIn, itemsOfBytes, reached, mayStand, scan, malformed, partsOfBytes}
+use Rattle.record.specs.Scan.{Items, ended, cut, then, itemsOfBytes, reached, mayStand, scan, malformed, partsOfBytes}
 use Rattle.record.specs.Reopen.{anyLate, oversized, miscounted, unreadable}
-
--- ---- small records and counts, computed
-
--- no bytes: kind 6 is missing, and no item stands before
-pub no-bytes : malformed [] ≡ refusal 17 1 0
-unfolding malformed itemsOfBytes itemsIn scan pick
-no-bytes = refl
-
--- a second undone count, and a check before it, can't stand
-pub two-undone : malformed (6 ∷ 0 ∷ 0 ∷ 6 ∷ 0 ∷ 0 ∷ []) ≡ refusal 17 2 0
-unfolding malformed itemsOfBytes itemsIn takeItem byKind body2 body3 body5 goOn scan mayStand reached pick
-two-undone = refl
-
-pub check-first : malformed (7 ∷ 1 ∷ 0 ∷ 1 ∷ 1 ∷ 5 ∷ 6 ∷ 0 ∷ 0 ∷ []) ≡ refusal 17 1 0
-unfolding malformed itemsOfBytes itemsIn takeItem byKind body2 body3 body5 goOn scan mayStand reached pick
-check-first = refl
-
--- a check's standing may be the limit, and no more
-abbrev askedAfter : ℕ → Asked
-askedAfter standing = record { standing = standing; row = 1; column = 1; digit = 5 }
-
-pub at-limit : anyLate (askedAfter maxMoves ∷ []) ≡ false
-unfolding anyLate either
-at-limit = refl
-
-pub past-limit : anyLate (askedAfter (suc maxMoves) ∷ []) ≡ true
-unfolding anyLate either
-past-limit = refl
 
 -- ---- 17
 
@@ -108,11 +81,6 @@ pub none-late : (cs : List Asked) → Each InTime cs → anyLate cs ≡ false
 unfolding anyLate Each
 none-late [] h = refl
 none-late (c ∷ cs) h = either-false _ _ (not-is-false _ (le-leb (c .standing) maxMoves (h .0))) (none-late cs (h .1))
-
--- one above it is late
-pub late-past : (c : Asked) (cs : List Asked) → c .standing ≡ suc maxMoves → anyLate (c ∷ cs) ≡ true
-unfolding anyLate
-late-past c cs h = either-left _ _ (ap not (lt-leb (c .standing) maxMoves (omega arith)))
 
 -- ---- 18, 20, 21
 

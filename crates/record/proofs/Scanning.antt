@@ -1,4 +1,5 @@
--- A scan of a record's bytes, one item after the other: what is left to read from an offset, what a turn takes off, and what the whole counts.
+-- A scan of a record's bytes, one item after the other: what is left to
+-- read from an offset, what a turn takes off, and what the whole counts.
 -- Assumes nothing.
 use Prim.Native.Nat.{ℕ, zero, suc, _+_, _^_, _≤_, _<_}
 use mathlib.Core.Path.{_≡_, refl, sym, ap, subst, _∙_}

@@ -1,4 +1,5 @@
--- Writing back what was read: bytes that are well formed are the record of the parts that they hold, and the numbers of these parts fit two bytes.
+-- Writing back what was read: bytes that are well formed are the record of
+-- the parts that they hold, and the numbers of these parts fit two bytes.
 -- Assumes nothing.
 use Prim.Native.Nat.{ℕ, zero, suc, _<_}
 use mathlib.Core.Path.{_≡_, refl, sym, ap, subst, _∙_}

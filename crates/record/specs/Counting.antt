@@ -1,4 +1,5 @@
--- How the code reads a record: what a kind byte decides, the item at an offset, and one item after the other counted; and what a scan of the whole record answers.
+-- How the code reads a record: what a kind byte decides, the item at an offset, and
+-- one item after the other counted; and what a scan of the whole record answers.
 -- Assumes nothing.
 use Prim.Native.Nat.{ℕ, _+_, _^_, _<_}
 use mathlib.Core.Bool.{Bool, false, not}
@@ -33,7 +34,8 @@ use Rattle.record.specs.Reopen.{anyLate, unreadable}
 abbrev pub shape : Group → ℕ → Shape
 shape group body = record { group = group; body = body }
 
--- what the kind byte of an item decides: its group, and how many bytes of body follow; kinds 0 and 8 to 255 are malformed
+-- what the kind byte of an item decides: its group, and how
+-- many bytes of body follow; kinds 0 and 8 to 255 are malformed
 unfoldable pub shapeOf : ℕ → Shape
 shapeOf kind =
     byKind kind (shape Givens 3) (shape Moves 3) (shape Moves 2) (shape Moves 3) (shape Moves 3) (shape Count 2) (shape Checks 5)

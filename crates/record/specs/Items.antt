@@ -1,5 +1,6 @@
 -- The record's items of document 01 (record.rs), and their bytes.
--- Each item is one byte of kind, then its body: 1 given and 2 place, 4 write mark, 5 strike mark (row, column, digit); 3 erase (row, column);
+-- Each item is one byte of kind, then its body: 1 given and 2 place, 4
+-- write mark, 5 strike mark (row, column, digit); 3 erase (row, column);
 -- 6 undone (two bytes, low first); 7 check (standing, two, low first; row, column, digit).
 -- Assumes nothing.
 use Prim.Native.Nat.{ℕ}

@@ -50,7 +50,8 @@ unreadable bytes solution =
     (orElse (oversized p)
     (orElse (refusedIf (not (ascending (p .givens))) (refusal 19 0 0)) (orElse (miscounted p) (vouch (p .givens) solution))))
 
--- all moves performed in order, move k first. 28 MoveAfterSolved at move place; 29 Move place refused by inner 3 or 5 to 11
+-- all moves performed in order, move k first. 28 MoveAfterSolved
+-- at move place; 29 Move place refused by inner 3 or 5 to 11
 unfoldable pub replay : Board → List ℕ → ℕ → List Move → Played
 replay b journal k [] = played accepted b journal
 replay b journal k (m ∷ ms) =
@@ -68,7 +69,8 @@ takeBackAll (suc n) b journal = takeBackAll n (undoOf b journal .board) journal
 unfoldable pub toPlay : Board → ℕ
 toPlay b = count (λ cell. not (isGiven (b .given) cell)) 81 1
 
--- at check k: 31 Check place refused by inner 3, 5 or 8; 32 CheckAfterNoMove; 33 a right digit where one cell was to play
+-- at check k: 31 Check place refused by inner 3, 5 or 8; 32
+-- CheckAfterNoMove; 33 a right digit where one cell was to play
 unfoldable pub checkRefusal : Board → ℕ → ℕ → Asked → Refusal
 checkRefusal b cells k c =
     let cell = cellOf (c .row) (c .column) in

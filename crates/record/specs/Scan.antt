@@ -95,7 +95,8 @@ mayStand phase (Played m) = leb phase 1
 mayStand phase (Undone n) = leb phase 1
 mayStand phase (Check standing row column digit) = eqb phase 2
 
--- 17 Record malformed: place being the first item that can't stand there or is cut short, or items plus one where the bytes end and kind 6 is missing
+-- 17 Record malformed: place being the first item that can't stand there or
+-- is cut short, or items plus one where the bytes end and kind 6 is missing
 unfoldable pub scan : ℕ → ℕ → Items → Refusal
 scan phase n ended = pick (eqb phase 2) accepted (refusal 17 n 0)
 scan phase n cut = refusal 17 n 0

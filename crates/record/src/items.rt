@@ -47,7 +47,8 @@ pub fn shape(kind: u8) -> Shape
     }
 }
 
-// The smaller of an offset and the length. Every byte past the end reads as 0, so reading goes on from there, and no sum overflows.
+// The smaller of an offset and the length. Every byte past the end
+// reads as 0, so reading goes on from there, and no sum overflows.
 fn within(bytes: &[u8], at: usize) -> usize
     ensures { λ r. ⌜ (r ≤ length (now (bytes .entry))) × (r ≤ at) × (r < at → r ≡ length (now (bytes .entry))) ⌝ }
 {

@@ -1,4 +1,5 @@
-// The record (board/record.rs of the original): a board written down whole as bytes, and reopened from what was written.
+// The record (board/record.rs of the original): a board written
+// down whole as bytes, and reopened from what was written.
 use journal::MAX_CHECKS;
 use journal::MAX_MOVES;
 use journal::Move;
@@ -9,7 +10,8 @@ pub mod items;
 pub mod scan;
 pub mod write;
 
-// Bytes of the items of a record, the kind byte among them: of a given and of a move with a digit, of an erase, of the undone count, of a check.
+// Bytes of the items of a record, the kind byte among them: of a given and
+// of a move with a digit, of an erase, of the undone count, of a check.
 pub const GIVEN_ITEM: usize = 4;
 
 pub const MOVE_ITEM: usize = 4;
@@ -70,7 +72,8 @@ pub enum Read {
     Nothing,
 }
 
-// How far a scan has come: phase 0 among the givens, 1 among the moves, 2 after the undone count; the next item's number and where it starts; what was counted so far.
+// How far a scan has come: phase 0 among the givens, 1 among the moves, 2 after the
+// undone count; the next item's number and where it starts; what was counted so far.
 pub struct Progress {
     pub phase: u8,
     pub item: usize,

@@ -1,4 +1,5 @@
-// Reading a record before anything is performed: its items in their order (17), and what its counts, its givens and the solution say (18 to 27).
+// Reading a record before anything is performed: its items in their order
+// (17), and what its counts, its givens and the solution say (18 to 27).
 use crate::Item;
 use crate::Progress;
 use crate::Read;

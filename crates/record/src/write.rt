@@ -1,4 +1,5 @@
-// Writing a record: 1, 2 and 14, the record's length against the output's (34), then its items laid into the output one after the other.
+// Writing a record: 1, 2 and 14, the record's length against the output's
+// (34), then its items laid into the output one after the other.
 use crate::CHECK_ITEM;
 use crate::ERASE_ITEM;
 use crate::GIVEN_ITEM;
@@ -142,7 +143,8 @@ fn moves_length(journal: &[u8], made: usize) -> usize
     total
 }
 
-// How many bytes the record has: four for a given, three or four for a move, three for the undone count, six for a check.
+// How many bytes the record has: four for a given, three or
+// four for a move, three for the undone count, six for a check.
 fn record_length(board: Board, journal: &[u8], checks: &[u8]) -> usize
     requires { ⌜ (board .made ≤ maxMoves) × (board .checks ≤ maxChecks) ⌝ }
     ensures { λ r. ⌜ r ≡ length (recordOf (partsOf board (now (journal .entry)) (now (checks .entry)))) ⌝ }

@@ -1,4 +1,5 @@
--- What reopening answers, part by part: where the record is not read, where a move is refused, where the board is solved and moves are undone, where a check is refused, and where nothing is.
+-- What reopening answers, part by part: where the record is not read, where a move is refused,
+-- where the board is solved and moves are undone, where a check is refused, and where nothing is.
 -- Assumes nothing.
 use Prim.Native.Nat.{ℕ, zero, suc, _-_, _*_, _≤_}
 use mathlib.Core.Path.{_≡_, refl, sym, ap, subst, _∙_}

@@ -1,4 +1,5 @@
--- How the code reopens a record: the moves and the checks where they stand in the bytes, one move performed, and what is left to do after each part.
+-- How the code reopens a record: the moves and the checks where they stand
+-- in the bytes, one move performed, and what is left to do after each part.
 -- Assumes nothing.
 use Prim.Native.Nat.{ℕ, zero, suc, _+_, _-_, _*_}
 use mathlib.Core.Path.{_≡_}

@@ -1,4 +1,5 @@
-// Reopening a record: the givens opened, all moves performed (28, 29), the undone ones taken back (30), then the checks (31 to 33).
+// Reopening a record: the givens opened, all moves performed (28,
+// 29), the undone ones taken back (30), then the checks (31 to 33).
 use board::Answer;
 use board::Board;
 use board::open::clear;
@@ -117,9 +118,9 @@ fn replay(bytes: &[u8], start: usize, count: usize, board: Board, journal: &mut 
     }
 }
 
-// Taking back n is one undo and then taking back n less one. The board's parts are lent, so that a step keeps nothing and the compiler makes a loop
-// of it, which tests/c/stack.c holds; a slice or a struct handed on by value would lie on the stack once for each step. No undo of a reopened record
-// is refused, and its number is not asked.
+// Taking back n is one undo and then taking back n less one. The board's parts are lent, so that a step keeps
+// nothing and the compiler makes a loop of it, which tests/c/stack.c holds; a slice or a struct handed on by value
+// would lie on the stack once for each step. No undo of a reopened record is refused, and its number is not asked.
 fn take_back_all<'a>(
     n: usize,
     digits: &mut [u8; 81],
@@ -314,7 +315,8 @@ fn settle(
     }
 }
 
-// A record whose lent lengths are right, over memory of zeros. What a refused one leaves there is the caller's to clear.
+// A record whose lent lengths are right, over memory of zeros.
+// What a refused one leaves there is the caller's to clear.
 fn reopened(bytes: &[u8], solution: &[u8], journal: &mut [u8], checks: &mut [u8]) -> Answer
     requires { ⌜ (length (now solution) ≡ 81) × (now journal ≡ noMoves) × (now checks ≡ noChecks) ⌝ }
     ensures { λ r. ⌜ Reopens (reopenedOf (now (bytes .entry)) (now (solution .entry))) r (now (journal .exit)) (now (checks .exit)) ⌝ }

@@ -1,13 +1,13 @@
 // The drawn board, character by character.
 use crate::Spot;
 use journal::notes::note_at;
+use journal::slots::is_given;
 use puzzle::conflicts;
 use puzzle::digit_at;
 use puzzle::holds_digit;
 use sudoku::cell_of;
 ghost use mathlib.Core.Path.{_≡_};
 ghost use Prim.Native.Nat.{_<_, _≤_};
-ghost use Rattle.puzzle.specs.Givens.{isGiven};
 ghost use Rattle.screen.specs.Picture.{size, figure as figureOf, across as acrossAt, upright as uprightAt, columnLabel};
 ghost use Rattle.screen.specs.Picture.{rowLabel, spotOf, framed as framedAt, placed as placedAt, isCorner, bracketAt};
 ghost use Rattle.screen.specs.Picture.{digitSign, markSign, cellSign, signOf, pictureOf, cellColour, colourOf, coloursOf};
@@ -202,13 +202,6 @@ fn mark_sign(note: u16, spot: u8) -> u8
     b'.'
 }
 
-// Whether the flag of a cell is set.
-fn is_set(flags: &[u8; 81], cell: usize) -> bool
-    ensures { λ r. ⌜ r ≡ isGiven (now (flags .entry)) cell ⌝ }
-{
-    digit_at(flags, cell) != 0
-}
-
 // A spot of a cell. A note under a digit is kept and not shown.
 fn cell_sign<'a>(
     digits: &'a [u8; 81],
@@ -222,7 +215,7 @@ fn cell_sign<'a>(
     if holds_digit(digits, cell) {
         return digit_sign(
             digit_at(digits, cell),
-            is_set(given, cell),
+            is_given(given, cell),
             conflicts(digits, cell),
             spot,
         );
@@ -265,7 +258,7 @@ fn cell_colour<'a>(digits: &'a [u8; 81], given: &'a [u8; 81], cell: usize) -> u8
     if conflicts(digits, cell) {
         return 3;
     }
-    if is_set(given, cell) {
+    if is_given(given, cell) {
         return 1;
     }
     2

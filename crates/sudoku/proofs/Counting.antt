@@ -1,5 +1,7 @@
 -- Counting by a value: the laws that make nine different digits in nine places each digit once.
--- A walk is counted as a whole, or value by value: both give the same sum (`count-by-value`). A test that no two numbers pass is counted at most once, and the other way round. Sums of parts of at most 1 are full exactly where each part is 1.
+-- A walk is counted as a whole, or value by value: both give the same sum
+-- (`count-by-value`). A test that no two numbers pass is counted at most once, and the
+-- other way round. Sums of parts of at most 1 are full exactly where each part is 1.
 -- Assumes nothing.
 use Prim.Native.Nat.{ℕ, zero, suc, _+_, _≤_, _<_}
 use mathlib.Core.Path.{_≡_, refl, sym, ap, subst}

@@ -1,4 +1,5 @@
--- The laws of `listed` of specs/Tests, the values of a function at the n numbers from i on: its length, its entries, and a list that a loop fills with them from the front.
+-- The laws of `listed` of specs/Tests, the values of a function at the n numbers from i
+-- on: its length, its entries, and a list that a loop fills with them from the front.
 -- Assumes nothing.
 use Prim.Native.Nat.{ℕ, zero, suc, _+_, _≤_, _<_}
 use mathlib.Core.Path.{_≡_, refl, sym, ap, _∙_}

@@ -1,4 +1,5 @@
--- The table of peers: twenty entries for each cell, cell 1 first. Its rule is one test, which antt computes over the whole table, and `table-peers` makes of it what stands for each cell.
+-- The table of peers: twenty entries for each cell, cell 1 first. Its rule is one test, which
+-- antt computes over the whole table, and `table-peers` makes of it what stands for each cell.
 -- Assumes nothing.
 use Prim.Native.Nat.{ℕ, zero, suc, _+_, _-_, _*_, _<_}
 use mathlib.Core.Path.{_≡_, refl, sym, ap, _∙_}

@@ -1,6 +1,9 @@
--- The laws of specs/Tests: choices and joined tests, the list of refusals, and the walks `every`, `count`, `among` and `run`.
--- A loop counts i up to e, which it does not reach: what is left of its walk is `every f (e - i) i`. So a walk of the cells 1 to 81 starts as `every f (82 - 1) 1`, which is `every f 81 1`.
--- Of each walk: what a turn takes off (`-step`, and `-more` or a name of its own where the test's outcome is known), and that nothing is left at the end (`-all`).
+-- The laws of specs/Tests: choices and joined tests, the list of
+-- refusals, and the walks `every`, `count`, `among` and `run`.
+-- A loop counts i up to e, which it does not reach: what is left of its walk is `every f (e - i)
+-- i`. So a walk of the cells 1 to 81 starts as `every f (82 - 1) 1`, which is `every f 81 1`.
+-- Of each walk: what a turn takes off (`-step`, and `-more` or a name of its own
+-- where the test's outcome is known), and that nothing is left at the end (`-all`).
 -- Assumes nothing.
 use Prim.Native.Nat.{ℕ, zero, suc, _+_, _-_, _≤_, _<_}
 use mathlib.Core.Path.{_≡_, refl, sym, ap, subst, _∙_}

@@ -28,7 +28,8 @@ rowOf cell = (cell - 1) / 9 + 1
 unfoldable pub columnOf : ℕ → ℕ
 columnOf cell = (cell - 1) % 9 + 1
 
--- the band of a row byte, and the stack of a column byte: the byte less one, not below 0, divided by three and rounded down, plus 1
+-- the band of a row byte, and the stack of a column byte: the byte
+-- less one, not below 0, divided by three and rounded down, plus 1
 unfoldable pub boxIndex : ℕ → ℕ
 boxIndex line = (line - 1) / 3 + 1
 

@@ -1,4 +1,5 @@
--- The small words that every definition of this repository is written in: a choice, joined tests, walks over numbers, and a list of refusals.
+-- The small words that every definition of this repository is written in:
+-- a choice, joined tests, walks over numbers, and a list of refusals.
 -- Assumes nothing.
 use Prim.Native.Nat.{ℕ, zero, suc, _+_}
 use mathlib.Core.Bool.{Bool, true, false}

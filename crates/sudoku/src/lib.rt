@@ -132,7 +132,8 @@ fn twenty(table: &[u8; 1620], start: usize) -> [u8; 20]
 }
 
 // The twenty peers of a cell, ascending; twenty zeros where there is no such cell.
-// The place in the table is a constant in each arm: the compiler then keeps twenty tables of 81 bytes in read-only memory.
+// The place in the table is a constant in each arm: the compiler
+// then keeps twenty tables of 81 bytes in read-only memory.
 // With a place that is worked out it would lay all 1,620 bytes out on the stack at every call.
 pub fn peers(cell: usize) -> [u8; 20]
     ensures { λ r. ⌜ r ≡ peersOf cell ⌝ }

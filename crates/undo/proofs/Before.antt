@@ -1,4 +1,5 @@
--- Undo and redo in two steps, as the code goes: the tests that need no slot, whose number a function of their own found, and then the slot. One law says it of both.
+-- Undo and redo in two steps, as the code goes: the tests that need no slot, whose
+-- number a function of their own found, and then the slot. One law says it of both.
 -- Assumes nothing.
 use Prim.Native.Nat.{ℕ, _+_, _<_}
 use mathlib.Core.Path.{_≡_, refl, sym, ap, _∙_}

@@ -1,4 +1,5 @@
--- A recorded move taken back and performed again by parts: the givens stay, the digits and the status come from the digits and the status, the notes from the notes.
+-- A recorded move taken back and performed again by parts: the givens stay, the digits
+-- and the status come from the digits and the status, the notes from the notes.
 -- And a mask of 0, which speaks of no peer: where a slot's is 0, twenty zeros serve as well as the peers.
 -- Assumes nothing.
 use Prim.Native.Nat.{ℕ, _+_, _-_, _<_}

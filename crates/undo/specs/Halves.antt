@@ -1,5 +1,7 @@
--- A recorded move taken back and performed again in two parts, the digit of its cell and the marks, and what is asked of each before.
--- The peers that a slot's mask speaks of are handed on: proofs/Parts shows that the two parts with these are the whole of specs/State, and that of a sound slot they ask the whole.
+-- A recorded move taken back and performed again in two parts, the
+-- digit of its cell and the marks, and what is asked of each before.
+-- The peers that a slot's mask speaks of are handed on: proofs/Parts shows that the two parts
+-- with these are the whole of specs/State, and that of a sound slot they ask the whole.
 -- Assumes nothing.
 use Prim.Native.Nat.{ℕ, _+_}
 use mathlib.Core.Bool.{Bool, true, not}

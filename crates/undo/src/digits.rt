@@ -19,7 +19,8 @@ pub struct Changed {
     pub solved: u8,
 }
 
-// The digit before, put back; whether the one after stood there. A move that changes no digit leaves both, and goes on to the marks alone.
+// The digit before, put back; whether the one after stood there. A move
+// that changes no digit leaves both, and goes on to the marks alone.
 pub fn put_back(digits: &mut [u8; 81], solved: u8, slot: Slot) -> Changed
     ensures { λ r. ⌜ (r .stood ≡ digitLeft (now (digits .entry)) (cellOf (slot .row) (slot .column)) (digitChange slot)) × ((given notes : List ℕ) → (r .solved ≡ digitBack (parts given (now (digits .entry)) notes solved) (cellOf (slot .row) (slot .column)) (digitChange slot) .solved) × (now (digits .exit) ≡ digitBack (parts given (now (digits .entry)) notes solved) (cellOf (slot .row) (slot .column)) (digitChange slot) .digits)) ⌝ }
 {
@@ -38,7 +39,8 @@ pub fn put_back(digits: &mut [u8; 81], solved: u8, slot: Slot) -> Changed
     }
 }
 
-// The digit after, put again; whether the one before stood there. A move that changes no digit leaves both, and goes on to the marks alone.
+// The digit after, put again; whether the one before stood there. A move
+// that changes no digit leaves both, and goes on to the marks alone.
 pub fn put_again(digits: &mut [u8; 81], solved: u8, slot: Slot) -> Changed
     ensures { λ r. ⌜ (r .stood ≡ digitFound (now (digits .entry)) (cellOf (slot .row) (slot .column)) (digitChange slot)) × ((given notes : List ℕ) → (r .solved ≡ digitAgain (parts given (now (digits .entry)) notes solved) (cellOf (slot .row) (slot .column)) (digitChange slot) .solved) × (now (digits .exit) ≡ digitAgain (parts given (now (digits .entry)) notes solved) (cellOf (slot .row) (slot .column)) (digitChange slot) .digits)) ⌝ }
 {

@@ -1,5 +1,6 @@
 // Undo and redo: a recorded move taken back, and performed again, as its slot says. No slot is written.
-// A call asks what its slot must be, digit and marks, when it changes them, and puts the board back where it is refused.
+// A call asks what its slot must be, digit and marks, when it
+// changes them, and puts the board back where it is refused.
 pub mod asking;
 pub mod digits;
 pub mod marks;
@@ -47,7 +48,7 @@ pub fn undo(board: Board, journal: &[u8]) -> Answer
     let digit = put_back(&mut answer.board.digits, board.solved, slot);
     let marks_stood = give_back(&mut answer.board.notes, slot);
     if !(is_sound(&answer.board.given, slot) & digit.stood & marks_stood) {
-        answer.board = board; // as it came
+        answer.board = board; // without the marks given back
         answer.refusal = refusal(14, board.standing, 0);
         return answer;
     }
@@ -79,7 +80,7 @@ pub fn redo(board: Board, journal: &[u8]) -> Answer
     let digit = put_again(&mut answer.board.digits, board.solved, slot);
     let marks_stood = take_again(&mut answer.board.notes, slot);
     if !(is_sound(&answer.board.given, slot) & digit.stood & marks_stood) {
-        answer.board = board; // as it came
+        answer.board = board; // without the marks taken again
         answer.refusal = refusal(14, next, 0);
         return answer;
     }
@@ -93,9 +94,9 @@ pub fn redo(board: Board, journal: &[u8]) -> Answer
     answer
 }
 
-// Undo on a board whose parts are lent, in place; a refused one leaves them. Reopening takes back so, one move after the
-// other: by value each step would copy the board four times, and `undo` with a second caller takes 13 ns longer, since
-// the compiler then copies its answer once more (docs/DECISIONS.md, 29).
+// Undo on a board whose parts are lent, in place; a refused one leaves them. Reopening takes back so, one
+// move after the other: by value each step would copy the board four times, and `undo` with a second
+// caller takes 13 ns longer, since the compiler then copies its answer once more (docs/DECISIONS.md, 29).
 pub fn undo_in<'a>(
     digits: &mut [u8; 81],
     given: &'a [u8; 81],
@@ -140,8 +141,8 @@ pub fn undo_in<'a>(
     *standing = counts.standing;
 }
 
-// A recorded move performed again on parts that are lent, in place and however they stand; the status afterwards is answered. Readings go so from
-// slot to slot.
+// A recorded move performed again on parts that are lent, in place and however
+// they stand; the status afterwards is answered. Readings go so from slot to slot.
 pub fn again_in(digits: &mut [u8; 81], notes: &mut [u16; 81], solved: u8, slot: Slot) -> u8
     ensures { λ r. ⌜ ((given : List ℕ) → parts given (now (digits .exit)) (now (notes .exit)) r ≡ performAgain (parts given (now (digits .entry)) (now (notes .entry)) solved) (moveOf slot) (slot .struck)) ⌝ }
 {

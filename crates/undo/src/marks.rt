@@ -1,5 +1,7 @@
-// The marks of a recorded move given back, and taken again, in place. A slot's mask speaks of the peers of its cell: they are asked for once, and lent to the loops.
-// Each change answers whether the marks stood as they must before it: one loop over twenty peers does both, and whoever is told no puts the notes back.
+// The marks of a recorded move given back, and taken again, in place. A slot's mask
+// speaks of the peers of its cell: they are asked for once, and lent to the loops.
+// Each change answers whether the marks stood as they must before it: one loop
+// over twenty peers does both, and whoever is told no puts the notes back.
 use journal::Move;
 use journal::Slot;
 use journal::notes::note_at;
@@ -23,7 +25,8 @@ ghost use Rattle.journal.specs.Slots.{moveOf};
 ghost use Rattle.play.specs.Parts.{parts};
 ghost use Rattle.undo.specs.Halves.{struckCells, marksBack, marksAgain, marksLeft, marksFound};
 
-// The peers that a slot's mask speaks of. A mask of 0 speaks of none, and twenty zeros stand for them: a place that struck nothing needs no peers.
+// The peers that a slot's mask speaks of. A mask of 0 speaks of none, and
+// twenty zeros stand for them: a place that struck nothing needs no peers.
 fn struck_cells(slot: Slot) -> [u8; 20]
     ensures { λ r. ⌜ r ≡ struckCells slot ⌝ }
 {
@@ -51,7 +54,8 @@ fn strike_standing(notes: &mut [u16; 81], cell: usize, digit: u8) -> bool
     stood
 }
 
-// The mark written into the notes of the cells in the mask, and into no others. Answered is whether each of them lacked it. A mask of 0 speaks of none.
+// The mark written into the notes of the cells in the mask, and into no others.
+// Answered is whether each of them lacked it. A mask of 0 speaks of none.
 fn restore(notes: &mut [u16; 81], digit: u8, mask: u32, cells: &[u8; 20]) -> bool
     ensures { λ r. ⌜ (r ≡ lackInTurn (now (notes .entry)) digit mask (now (cells .entry))) × (now (notes .exit) ≡ writeMasked (now (notes .entry)) digit mask (now (cells .entry))) ⌝ }
 {
@@ -61,7 +65,8 @@ fn restore(notes: &mut [u16; 81], digit: u8, mask: u32, cells: &[u8; 20]) -> boo
     write_masked_in(notes, digit, mask, cells)
 }
 
-// The mark struck from the notes of the cells in the mask, and from no others. Answered is whether it was missing in none of them.
+// The mark struck from the notes of the cells in the mask, and from
+// no others. Answered is whether it was missing in none of them.
 fn strike_again(notes: &mut [u16; 81], digit: u8, mask: u32, cells: &[u8; 20]) -> bool
     ensures { λ r. ⌜ (r ≡ noneMissingInTurn (now (notes .entry)) digit mask (now (cells .entry))) × (now (notes .exit) ≡ strikeMasked (now (notes .entry)) digit mask (now (cells .entry))) ⌝ }
 {
@@ -71,7 +76,8 @@ fn strike_again(notes: &mut [u16; 81], digit: u8, mask: u32, cells: &[u8; 20]) -
     strike_masked_in(notes, digit, mask, cells)
 }
 
-// Exactly the marks that were struck, or the mark changed, given back in place. Answered is whether they stood as the move left them.
+// Exactly the marks that were struck, or the mark changed, given back
+// in place. Answered is whether they stood as the move left them.
 pub fn give_back(notes: &mut [u16; 81], slot: Slot) -> bool
     ensures { λ r. ⌜ (r ≡ marksLeft (now (notes .entry)) (moveOf slot) (slot .struck) (struckCells slot)) × ((given digits : List ℕ) (solved : ℕ) → now (notes .exit) ≡ marksBack (parts given digits (now (notes .entry)) solved) (moveOf slot) (slot .struck) (struckCells slot) .notes) ⌝ }
 {
@@ -97,7 +103,8 @@ pub fn give_back(notes: &mut [u16; 81], slot: Slot) -> bool
     }
 }
 
-// Exactly the marks in the mask, or the mark changed, struck or written again in place. Answered is whether they stood as the move found them; what is no digit is missing nowhere.
+// Exactly the marks in the mask, or the mark changed, struck or written again in place.
+// Answered is whether they stood as the move found them; what is no digit is missing nowhere.
 pub fn take_again(notes: &mut [u16; 81], slot: Slot) -> bool
     ensures { λ r. ⌜ (r ≡ marksFound (now (notes .entry)) (moveOf slot) (slot .struck) (struckCells slot)) × ((given digits : List ℕ) (solved : ℕ) → now (notes .exit) ≡ marksAgain (parts given digits (now (notes .entry)) solved) (moveOf slot) (slot .struck) (struckCells slot) .notes) ⌝ }
 {

@@ -29,6 +29,7 @@ use puzzle::byte_at;
 use puzzle::digit_at;
 use puzzle::index_of;
 use readings::Reading;
+use record::RECORD_BYTES;
 use sudoku::CELLS;
 use sudoku::LINE;
 use sudoku::SIDE;
@@ -39,8 +40,6 @@ ghost use Prim.Native.Nat.{_<_, _≤_};
 const LARGE: usize = 1000000;
 // Room for the answers to the calls of a session: no stored one has as many.
 const ANSWERS: usize = 16384;
-// No record is longer.
-const MAX_RECORD: usize = 5955;
 // Bytes of a given, of a stored refusal, and of a number.
 const GIVEN: usize = 3;
 
@@ -332,7 +331,7 @@ fn reopened(record: &[u8], walk: Walk, journal: &[u8], checks: &[u8]) -> usize {
 fn record(block: &[u8], walk: Walk, journal: &[u8], checks: &[u8]) -> Walk {
     let length = number_at(block, walk.at);
     let stored = part(block, plus(walk.at, NUMBER), length);
-    let mut output = [0u8; MAX_RECORD];
+    let mut output = [0u8; RECORD_BYTES];
     let written = pawdoku_write(walk.board, journal, checks, &mut output);
     let refused = differs(written.refusal.number == 0);
     let wrong = differing(stored, part(&output, 0, written.length));

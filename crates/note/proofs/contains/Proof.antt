@@ -1,4 +1,5 @@
--- `note::contains` meets its contract: what the note has in common with the mark's value is not 0 exactly where the mark is written.
+-- `note::contains` meets its contract: what the note has in common
+-- with the mark's value is not 0 exactly where the mark is written.
 -- Assumes nothing.
 use borrow.Author.Needs.{needs}
 use Rattle.note.proofs.Note.{power-tests}

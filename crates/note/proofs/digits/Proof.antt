@@ -1,4 +1,5 @@
--- `note::digits` meets its contract. The loop's invariant: the marks from `mark` on, stored from place n on, complete the answer.
+-- `note::digits` meets its contract. The loop's invariant: the marks
+-- from `mark` on, stored from place n on, complete the answer.
 -- Assumes nothing.
 use Prim.Native.Nat.{ℕ, zero, suc, _≤_, _<_, _+_, _-_}
 use mathlib.Core.Path.{_≡_, sym, _∙_}

@@ -1,4 +1,5 @@
--- `puzzle::cells_holding` meets its contract: what was counted, and what is left to count from `cell` on, is the whole count.
+-- `puzzle::cells_holding` meets its contract: what was counted,
+-- and what is left to count from `cell` on, is the whole count.
 -- Assumes nothing.
 use Prim.Native.Nat.{ℕ, _≤_, _<_, _+_, _-_}
 use mathlib.Core.Path.{_≡_, sym, _∙_}

@@ -1,4 +1,5 @@
--- `puzzle::is_consistent` meets its contract: one test after the other is all three at once, and those say that no cell conflicts.
+-- `puzzle::is_consistent` meets its contract: one test after the
+-- other is all three at once, and those say that no cell conflicts.
 -- Assumes nothing.
 use mathlib.Core.Path.{sym, _∙_}
 use borrow.Author.Tests.{not-true, not-false}

@@ -1,4 +1,5 @@
--- The proof of the cycle of calls {take_back_all}. The measure is the number of moves still to take back, which falls by one.
+-- The proof of the cycle of calls {take_back_all}. The measure
+-- is the number of moves still to take back, which falls by one.
 -- Assumes nothing.
 use Prim.Native.Nat.{ℕ, suc, _-_, _<_}
 use mathlib.Core.Path.{_≡_, sym, ap, _∙_}

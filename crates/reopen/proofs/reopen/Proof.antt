@@ -1,4 +1,5 @@
--- `reopen::reopen` meets its contract: number 1, then zeros; where the record is refused, zeros again and the zero board.
+-- `reopen::reopen` meets its contract: number 1, then zeros;
+-- where the record is refused, zeros again and the zero board.
 -- Assumes nothing.
 use mathlib.Core.Path.{refl, sym, _∙_}
 use borrow.Author.Tests.{not-true, not-false}

@@ -1,4 +1,5 @@
--- `sudoku::column_of` meets its contract: 0 computes, and the others are the definition itself, with a remainder below nine.
+-- `sudoku::column_of` meets its contract: 0 computes, and the
+-- others are the definition itself, with a remainder below nine.
 -- Assumes nothing.
 use Prim.Native.Nat.{_-_}
 use mathlib.Core.Path.{refl, sym, ap}

@@ -1,4 +1,5 @@
--- `sudoku::is_peer_of` meets its contract: each of its five returns is the definition where the tests before it have gone as they did.
+-- `sudoku::is_peer_of` meets its contract: each of its five returns
+-- is the definition where the tests before it have gone as they did.
 -- Assumes nothing.
 use Prim.Native.Nat.{ℕ}
 use mathlib.Core.Path.{_≡_, sym, _∙_}

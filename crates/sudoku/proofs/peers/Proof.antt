@@ -1,4 +1,5 @@
--- `sudoku::peers` meets its contract. The table's rule is one test, every (rule table) 81 1, which antt computes over all of its 1,620 entries: `refl`. Each arm of the match cites it.
+-- `sudoku::peers` meets its contract. The table's rule is one test, every (rule table) 81 1,
+-- which antt computes over all of its 1,620 entries: `refl`. Each arm of the match cites it.
 -- Assumes nothing.
 use Prim.Native.Nat.{ℕ, _-_, _*_}
 use mathlib.Core.Path.{_≡_, refl, sym, ap, _∙_}

@@ -1,7 +1,6 @@
 -- `vectors::readings` is safe and ends.
 -- Assumes nothing.
-use Prim.Native.Nat.{_≤_, _-_}
-use native.Mathlib.Omega.{arith}
+use Prim.Native.Nat.{_-_}
 use borrow.Author.Needs.{needs}
 use Rattle.vectors.proofs.readings.Statement.{statement}
 use Rattle.vectors.proofs.readings.Tie as tie

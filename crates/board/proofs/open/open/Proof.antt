@@ -1,4 +1,5 @@
--- `board::open::open` meets its contract: number 1 in two tests, then zeros and the answer that the puzzle's tests give.
+-- `board::open::open` meets its contract: number 1 in two tests,
+-- then zeros and the answer that the puzzle's tests give.
 -- Assumes nothing.
 use mathlib.Core.Path.{sym, _∙_}
 use borrow.Author.Needs.{needs}

@@ -1,4 +1,5 @@
--- `board::open::opened` meets its contract: the triples are the givens in their layout, and the solution of 81 bytes comes back from its nine rows.
+-- `board::open::opened` meets its contract: the triples are the givens in
+-- their layout, and the solution of 81 bytes comes back from its nine rows.
 -- Assumes nothing.
 use borrow.Author.Needs.{needs}
 use Rattle.board.proofs.Opening.{opened-fresh, opened-refused}

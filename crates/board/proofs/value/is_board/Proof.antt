@@ -1,4 +1,5 @@
--- `board::value::is_board` meets its contract: each of its returns is the definition where the tests before it have gone as they did.
+-- `board::value::is_board` meets its contract: each of its returns
+-- is the definition where the tests before it have gone as they did.
 -- Assumes nothing.
 use Prim.Native.Nat.{_≤_, _<_}
 use mathlib.Core.Path.{_≡_, sym, _∙_}

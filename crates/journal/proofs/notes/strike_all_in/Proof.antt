@@ -1,4 +1,5 @@
--- `journal::notes::strike_all_in` meets its contract. The loop's invariant: striking at what is left of the cells completes the answer.
+-- `journal::notes::strike_all_in` meets its contract. The loop's
+-- invariant: striking at what is left of the cells completes the answer.
 -- Assumes nothing.
 use Prim.Native.Nat.{_-_}
 use mathlib.Core.Path.{_≡_, refl, sym, _∙_}

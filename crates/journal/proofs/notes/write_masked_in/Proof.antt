@@ -1,5 +1,6 @@
--- `journal::notes::write_masked_in` meets its contract. The loop's invariant: writing by the rest of the mask at what is left of the cells completes the notes, and what was
--- found so far together with what is found there completes the answer.
+-- `journal::notes::write_masked_in` meets its contract. The loop's invariant:
+-- writing by the rest of the mask at what is left of the cells completes the notes,
+-- and what was found so far together with what is found there completes the answer.
 -- Assumes nothing.
 use Prim.Native.Nat.{_-_}
 use mathlib.Core.Path.{_≡_, refl, sym, _∙_}

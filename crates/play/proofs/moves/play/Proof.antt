@@ -1,4 +1,5 @@
--- `play::moves::play` meets its contract. A refused call hands the board back as it came, an accepted one has room for its slot.
+-- `play::moves::play` meets its contract. A refused call hands the
+-- board back as it came, an accepted one has room for its slot.
 -- Assumes nothing.
 use mathlib.Core.Path.{ap, _∙_}
 use Rattle.journal.specs.Slots.{bytesOf}

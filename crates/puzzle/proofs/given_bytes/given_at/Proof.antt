@@ -1,4 +1,5 @@
--- `puzzle::given_bytes::given_at` meets its contract: where a test fails the given would start past the end, and all such givens are zeros.
+-- `puzzle::given_bytes::given_at` meets its contract: where a test fails
+-- the given would start past the end, and all such givens are zeros.
 -- Assumes nothing.
 use Prim.Native.Nat.{ℕ, _+_, _*_, _/_, _<_}
 use mathlib.Core.Path.{_≡_, sym, ap, _∙_}

@@ -1,4 +1,5 @@
--- `puzzle::given_bytes::mark_givens` meets its contract: the givens from `i` on, marked over what the loop has so far, are the whole.
+-- `puzzle::given_bytes::mark_givens` meets its contract: the givens
+-- from `i` on, marked over what the loop has so far, are the whole.
 -- Assumes nothing.
 use Prim.Native.Nat.{ℕ, _≤_, _+_, _-_}
 use mathlib.Core.Path.{_≡_, sym, ap, _∙_}

@@ -1,4 +1,5 @@
--- `puzzle::vouch::consistent` meets its contract: that of the walk over the digits laid out, which finds nothing where the grid is full and no cell conflicts.
+-- `puzzle::vouch::consistent` meets its contract: that of the walk over the digits
+-- laid out, which finds nothing where the grid is full and no cell conflicts.
 -- Assumes nothing.
 use mathlib.Core.Path.{sym, _∙_}
 use borrow.Author.Needs.{needs}

@@ -1,4 +1,5 @@
--- `puzzle::vouch::given_matches` meets its contract: each of its three returns is the definition where the tests before it have gone as they did.
+-- `puzzle::vouch::given_matches` meets its contract: each of its three
+-- returns is the definition where the tests before it have gone as they did.
 -- Assumes nothing.
 use Prim.Native.Nat.{ℕ}
 use mathlib.Core.Path.{_≡_, refl, sym, _∙_}

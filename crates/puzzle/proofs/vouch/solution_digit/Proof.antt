@@ -1,4 +1,5 @@
--- `puzzle::vouch::solution_digit` meets its contract: each of its three returns is the definition where the tests before it have gone as they did.
+-- `puzzle::vouch::solution_digit` meets its contract: each of its three
+-- returns is the definition where the tests before it have gone as they did.
 -- Assumes nothing.
 use Prim.Native.Nat.{ℕ, _≤_, _<_}
 use mathlib.Core.Path.{_≡_, refl, sym, _∙_}

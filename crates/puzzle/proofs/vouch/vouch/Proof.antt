@@ -1,4 +1,5 @@
--- `puzzle::vouch::vouch` meets its contract: 22, then 23 and 24, then 25, then 26 and 27. The rows are the solution read from its bytes, so the tests say of them what they say of it.
+-- `puzzle::vouch::vouch` meets its contract: 22, then 23 and 24, then 25, then 26 and 27. The
+-- rows are the solution read from its bytes, so the tests say of them what they say of it.
 -- Assumes nothing.
 use Prim.Native.Nat.{ℕ, _≤_, _<_}
 use mathlib.Core.Path.{_≡_, refl, sym, ap, _∙_}

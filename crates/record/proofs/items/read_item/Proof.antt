@@ -1,4 +1,5 @@
--- `record::items::read_item` meets its contract: past the end nothing stands, an item whose body ends too late is cut short, any other is what its group says.
+-- `record::items::read_item` meets its contract: past the end nothing stands, an
+-- item whose body ends too late is cut short, any other is what its group says.
 -- Assumes nothing.
 use mathlib.Core.Path.{sym, ap, _∙_}
 use Rattle.record.specs.Counting.{shapeOf}

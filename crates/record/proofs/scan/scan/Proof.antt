@@ -1,4 +1,5 @@
--- `record::scan::scan` meets its contract. The invariant: what is left to read makes of the counts so far what the whole record counts.
+-- `record::scan::scan` meets its contract. The invariant: what is left
+-- to read makes of the counts so far what the whole record counts.
 -- Assumes nothing.
 use mathlib.Core.Path.{_≡_, sym, _∙_}
 use Prim.Native.Nat.{_-_}

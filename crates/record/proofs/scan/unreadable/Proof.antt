@@ -1,4 +1,5 @@
--- `record::scan::unreadable` meets its contract: 17 by the scan, 18 by its counts, 19 over the givens where they stand as items, then 20 and 21, then 22 to 27.
+-- `record::scan::unreadable` meets its contract: 17 by the scan, 18 by its counts,
+-- 19 over the givens where they stand as items, then 20 and 21, then 22 to 27.
 -- Assumes nothing.
 use mathlib.Core.Path.{sym, _∙_}
 use native.Mathlib.Omega.{arith}

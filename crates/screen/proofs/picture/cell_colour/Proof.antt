@@ -22,16 +22,16 @@ returns-2 : tie.Need-returns-2
 unfolding cellColour pick
 returns-2 c = simp (sym (c .before .before .before .holds-digit .ensures) ∙ not-false _ (c .before .before .if1 .left), sym (c .before .conflicts .ensures) ∙ c .if2 .taken)
 
-is-set-requires : tie.Need-is-set-requires
-is-set-requires c κs = search needs
+is-given-requires : tie.Need-is-given-requires
+is-given-requires c κs = search needs
 
 returns-3 : tie.Need-returns-3
 unfolding cellColour pick
-returns-3 c = simp (sym (c .before .before .before .before .before .holds-digit .ensures) ∙ not-false _ (c .before .before .before .before .if1 .left), sym (c .before .before .before .conflicts .ensures) ∙ c .before .before .if2 .left, sym (c .before .is-set .ensures) ∙ c .if3 .taken)
+returns-3 c = simp (sym (c .before .before .before .before .before .holds-digit .ensures) ∙ not-false _ (c .before .before .before .before .if1 .left), sym (c .before .before .before .conflicts .ensures) ∙ c .before .before .if2 .left, sym (c .before .is-given .ensures) ∙ c .if3 .taken)
 
 returns-4 : tie.Need-returns-4
 unfolding cellColour pick
-returns-4 c = simp (sym (c .before .before .before .before .before .holds-digit .ensures) ∙ not-false _ (c .before .before .before .before .if1 .left), sym (c .before .before .before .conflicts .ensures) ∙ c .before .before .if2 .left, sym (c .before .is-set .ensures) ∙ c .if3 .left)
+returns-4 c = simp (sym (c .before .before .before .before .before .holds-digit .ensures) ∙ not-false _ (c .before .before .before .before .if1 .left), sym (c .before .before .before .conflicts .ensures) ∙ c .before .before .if2 .left, sym (c .before .is-given .ensures) ∙ c .if3 .left)
 
 pub cell-colour-spec : {M : Type 1} → statement M
 cell-colour-spec =
@@ -41,6 +41,6 @@ cell-colour-spec =
     returns
     conflicts-requires
     returns-2
-    is-set-requires
+    is-given-requires
     returns-3
     returns-4)

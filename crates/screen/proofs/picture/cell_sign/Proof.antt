@@ -13,8 +13,8 @@ holds-digit-requires c κs = search needs
 digit-at-requires : tie.Need-digit-at-requires
 digit-at-requires c κs = search needs
 
-is-set-requires : tie.Need-is-set-requires
-is-set-requires c κs = search needs
+is-given-requires : tie.Need-is-given-requires
+is-given-requires c κs = search needs
 
 conflicts-requires : tie.Need-conflicts-requires
 conflicts-requires c κs = search needs
@@ -24,7 +24,7 @@ digit-sign-requires c κs = search needs
 
 returns : tie.Need-returns
 unfolding cellSign pick
-returns c = simp (sym (c .before .before .before .before .before .holds-digit .ensures) ∙ c .before .before .before .before .if1 .taken, c .digit-sign .ensures, c .before .before .before .digit-at .ensures, c .before .before .is-set .ensures, c .before .conflicts .ensures)
+returns c = simp (sym (c .before .before .before .before .before .holds-digit .ensures) ∙ c .before .before .before .before .if1 .taken, c .digit-sign .ensures, c .before .before .before .digit-at .ensures, c .before .before .is-given .ensures, c .before .conflicts .ensures)
 
 note-at-requires : tie.Need-note-at-requires
 note-at-requires c κs = search needs
@@ -42,7 +42,7 @@ cell-sign-spec =
     (tie.spec
     holds-digit-requires
     digit-at-requires
-    is-set-requires
+    is-given-requires
     conflicts-requires
     digit-sign-requires
     returns

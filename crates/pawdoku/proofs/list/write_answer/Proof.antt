@@ -1,14 +1,14 @@
--- `calls::encoded::write_answer` meets its contract: four stores, one behind the other.
+-- `pawdoku::list::write_answer` meets its contract: four stores, one behind the other.
 -- Assumes nothing.
 use mathlib.Core.Path.{_∙_}
 use native.Mathlib.Omega.{arith}
 use lib.ListN.{length-set}
 use Rattle.journal.specs.Bytes.{low, second}
 use Rattle.journal.proofs.Stores.{stored, laid-over}
 use Rattle.calls.specs.Encoded.{answerBytes}
 use borrow.Author.Needs.{needs}
-use Rattle.calls.proofs.encoded.write_answer.Statement.{statement}
-use Rattle.calls.proofs.encoded.write_answer.Tie as tie
+use Rattle.pawdoku.proofs.list.write_answer.Statement.{statement}
+use Rattle.pawdoku.proofs.list.write_answer.Tie as tie
 
 mul-start : tie.Need-mul-start
 mul-start c = search needs

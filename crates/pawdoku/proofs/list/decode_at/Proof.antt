@@ -1,9 +1,9 @@
--- `calls::encoded::decode_at` meets its contract.
+-- `pawdoku::list::decode_at` meets its contract.
 -- Assumes nothing.
 use Rattle.calls.specs.Encoded.{decodeAt}
 use borrow.Author.Needs.{needs}
-use Rattle.calls.proofs.encoded.decode_at.Statement.{statement}
-use Rattle.calls.proofs.encoded.decode_at.Tie as tie
+use Rattle.pawdoku.proofs.list.decode_at.Statement.{statement}
+use Rattle.pawdoku.proofs.list.decode_at.Tie as tie
 
 mul-start : tie.Need-mul-start
 mul-start c = search needs
