@@ -1,12 +1,9 @@
 // An encoded list of calls, run: each call in its turn, on the board and memory that the last one left.
-// A list is a chain of the exported functions, each handed what the last returned.
+// A list is a chain of the calls that a host makes, each handed what the last returned: undo, redo and check by the
+// exported functions, a move by the function that the four exported ones hand it to (docs/DECISIONS.md, 31).
 use crate::played::pawdoku_check;
-use crate::played::pawdoku_erase;
-use crate::played::pawdoku_place;
 use crate::played::pawdoku_redo;
-use crate::played::pawdoku_strike_mark;
 use crate::played::pawdoku_undo;
-use crate::played::pawdoku_write_mark;
 use board::Answer;
 use board::Board;
 use board::Checked;
@@ -16,7 +13,6 @@ use calls::Decoded;
 use calls::NO_CALL;
 use calls::encoded::decode;
 use calls::encoded::groups;
-use journal::Move;
 use journal::checks::verdict;
 use puzzle::Refusal;
 use puzzle::answer::accepted;
@@ -28,7 +24,6 @@ ghost use Prim.Native.Nat.{_*_, _/_, _<_};
 ghost use lib.ListN.{length};
 ghost use Rattle.puzzle.specs.Refusals.{accepted as acceptedOf};
 ghost use Rattle.journal.specs.Bytes.{over};
-ghost use Rattle.play.specs.Play.{playOf};
 ghost use Rattle.calls.specs.Session.{callOf};
 ghost use Rattle.calls.specs.Encoded.{callBytes, said, decodeAt, answerBytes, session, judged, leaves, runOne, ran, runAt, runOf};
 
@@ -69,37 +64,12 @@ fn unjudged(answer: Answer) -> Checked
     }
 }
 
-// A move, by the call that makes it.
-fn make(board: Board, journal: &mut [u8], m: Move) -> Answer
-    ensures { λ r. ⌜ r ≡ playOf board (now (journal .entry)) m .answer ⌝ }
-    ensures { λ _. ⌜ now (journal .exit) ≡ playOf board (now (journal .entry)) m .journal ⌝ }
-{
-    match m {
-        Move::Place { row, column, digit } => pawdoku_place(board, journal, row, column, digit),
-        Move::Erase { row, column } => pawdoku_erase(board, journal, row, column),
-        Move::WriteMark { row, column, digit } => pawdoku_write_mark(
-            board,
-            journal,
-            row,
-            column,
-            digit,
-        ),
-        Move::StrikeMark { row, column, digit } => pawdoku_strike_mark(
-            board,
-            journal,
-            row,
-            column,
-            digit,
-        ),
-    }
-}
-
 // One call.
 fn call(board: Board, journal: &mut [u8], checks: &mut [u8], c: Call) -> Checked
     ensures { λ r. ⌜ leaves r (now (journal .exit)) (now (checks .exit)) ≡ callOf (session board (now (journal .entry)) (now (checks .entry))) c ⌝ }
 {
     match c {
-        Call::Make(m) => unjudged(make(board, journal, m)),
+        Call::Make(m) => unjudged(play::moves::play(board, journal, m)),
         Call::Undo => unjudged(pawdoku_undo(board, journal)),
         Call::Redo => unjudged(pawdoku_redo(board, journal)),
         Call::Check { row, column } => pawdoku_check(board, checks, row, column),

@@ -8,8 +8,8 @@ use Rattle.pawdoku.proofs.list.call.Tie as tie
 enum-known-c : tie.Need-enum-known-c
 enum-known-c c = search needs
 
-make-requires : tie.Need-make-requires
-make-requires c κs = search needs
+play-requires : tie.Need-play-requires
+play-requires c κs = search needs
 
 unjudged-requires : tie.Need-unjudged-requires
 unjudged-requires c κs = search needs
@@ -42,7 +42,7 @@ same-length : tie.Need-same-length
 same-length c = search needs
 
 returns : tie.Need-returns
-returns c = rw (c .before .before .before .before .before .before .c .given .1) (makes _ _ _ _ _ (c .unjudged .ensures) _ _ (c .before .before .before .make .ensures))
+returns c = rw (c .before .before .before .before .before .before .c .given .1) (makes _ _ _ _ _ (c .unjudged .ensures) _ _ (c .before .before .before .play .ensures))
 
 same-length-2 : tie.Need-same-length-2
 same-length-2 c = search needs
@@ -67,7 +67,7 @@ call-spec =
     tie.close
     (tie.spec
     enum-known-c
-    make-requires
+    play-requires
     unjudged-requires
     enum-told
     pawdoku-undo-requires
