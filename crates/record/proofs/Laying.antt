@@ -14,6 +14,7 @@ use Rattle.sudoku.specs.Grid.{at}
 use Rattle.sudoku.proofs.Walks.{left-one}
 use Rattle.sudoku.proofs.Listed.{length-listed}
 use Rattle.puzzle.specs.declared.Given.{Given as Setters}
+use Rattle.journal.specs.Limits.{checkItemBytes, givenItemBytes, undoneItemBytes}
 use Rattle.journal.specs.declared.Move.{Move}
 use Rattle.journal.specs.Bytes.{low, second, over}
 use Rattle.journal.specs.Slots.{slotAt, moveOf}
@@ -142,7 +143,7 @@ count-of-givens b (suc n) cell = keep-length _ _ (givensFrom b n (suc cell)) ∙
 
 module _ (b : Board) (journal checks : List ℕ) where
   pub length-record : length (recordOf (partsOf b journal checks))
-      ≡ 4 * count (isGiven (b .given)) 81 1 + length (movesBytes journal (b .made)) + 3 + 6 * b .checks
+      ≡ givenItemBytes * count (isGiven (b .given)) 81 1 + length (movesBytes journal (b .made)) + undoneItemBytes + checkItemBytes * b .checks
   unfolding partsOf givensOf movesBytes askedOf
   length-record =
       omega (

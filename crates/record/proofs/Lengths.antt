@@ -8,7 +8,7 @@ use lib.ListN.{length, length-append}
 use Rattle.puzzle.specs.declared.Given.{Given as Setters}
 use Rattle.journal.specs.declared.Move.{Move}
 use Rattle.journal.specs.declared.Move.the-variants.{Place, Erase, WriteMark, StrikeMark}
-use Rattle.journal.specs.Limits.{maxMoves, maxChecks, recordBytes}
+use Rattle.journal.specs.Limits.{maxMoves, maxChecks, recordBytes, checkItemBytes, givenItemBytes, moveItemBytes, undoneItemBytes}
 use Rattle.record.specs.declared.Item.{Item}
 use Rattle.record.specs.declared.Item.the-variants.{Played, Undone}
 use Rattle.journal.specs.declared.Asked.{Asked}
@@ -46,7 +46,7 @@ encode-join [] js = refl
 encode-join (i ∷ is) js =
     ap (λ (l : List ℕ). encode i ++ l) (encode-join is js) ∙ sym (append-assoc (encode i) (encodeAll is) (encodeAll js))
 
-pub length-givens : (gs : List Setters) → length (encodeAll (map givenItem gs)) ≡ 4 * length gs
+pub length-givens : (gs : List Setters) → length (encodeAll (map givenItem gs)) ≡ givenItemBytes * length gs
 unfolding encodeAll givenItem encode
 length-givens [] = refl
 length-givens (g ∷ gs) = omega (arith, length-givens gs)
@@ -60,12 +60,12 @@ unfolding encodeAll movesBytes
 length-moves [] = refl
 length-moves (m ∷ ms) = omega (arith, length-append (encode (Played m)) (encodeAll (map Played ms)), length-move m, length-moves ms)
 
-pub moves-bytes-le : (ms : List Move) → movesBytes ms ≤ 4 * length ms
+pub moves-bytes-le : (ms : List Move) → movesBytes ms ≤ moveItemBytes * length ms
 unfolding movesBytes
 moves-bytes-le [] = omega arith
 moves-bytes-le (m ∷ ms) = omega (arith, move-bytes-le m, moves-bytes-le ms)
 
-pub length-checks : (cs : List Asked) → length (encodeAll (map checkItem cs)) ≡ 6 * length cs
+pub length-checks : (cs : List Asked) → length (encodeAll (map checkItem cs)) ≡ checkItemBytes * length cs
 unfolding encodeAll checkItem encode
 length-checks [] = refl
 length-checks (c ∷ cs) = omega (arith, length-checks cs)
@@ -84,7 +84,7 @@ module _ (p : Parts) where
       ∙ ap (λ (l : List ℕ). encodeAll (map givenItem (p .givens)) ++ l)
       (encode-join (map Played (p .moves)) (Undone (p .undone) ∷ map checkItem (p .checks)))
 
-  pub record-length : length (recordOf p) ≡ 4 * length (p .givens) + movesBytes (p .moves) + 3 + 6 * length (p .checks)
+  pub record-length : length (recordOf p) ≡ givenItemBytes * length (p .givens) + movesBytes (p .moves) + undoneItemBytes + checkItemBytes * length (p .checks)
   unfolding encode
   record-length =
       omega (

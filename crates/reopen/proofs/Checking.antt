@@ -19,6 +19,7 @@ use Rattle.puzzle.specs.declared.Refusal.{Refusal}
 use Rattle.puzzle.specs.Refusals.{refusal, accepted, refusedIf, orElse}
 use Rattle.puzzle.proofs.Accepted.{if-not}
 use Rattle.puzzle.proofs.Refusals.{refused-if, or-else-by, or-else-passed, or-else-past}
+use Rattle.journal.specs.Limits.{checkItemBytes, checkBytes}
 use Rattle.journal.specs.StoredChecks.{isRight, judged, storedBytes, storedAll}
 use Rattle.journal.proofs.Memory.{length-stored}
 use Rattle.board.specs.declared.Board.{Board}
@@ -82,18 +83,18 @@ module _ (b : Board) (cells k : ℕ) (c : Asked) (n : ℕ) (e : n ≡ askedNumbe
 
 -- those that are left from check k on
 abbrev pub asksLeft : List ℕ → ℕ → ℕ → ℕ → List Asked
-asksLeft bytes start count k = listed (λ i. askedFrom bytes (start + 6 * (i - 1))) (count + 1 - k) k
+asksLeft bytes start count k = listed (λ i. askedFrom bytes (start + checkItemBytes * (i - 1))) (count + 1 - k) k
 
 back-one : (n : ℕ) → n ≡ n + 1 - 1
 back-one n = omega arith
 
 pub asks-all : (bytes : List ℕ) (start count : ℕ) → asksAt bytes start count ≡ asksLeft bytes start count 1
 unfolding asksAt
-asks-all bytes start count = ap (λ (n : ℕ). listed (λ i. askedFrom bytes (start + 6 * (i - 1))) n 1) (back-one count)
+asks-all bytes start count = ap (λ (n : ℕ). listed (λ i. askedFrom bytes (start + checkItemBytes * (i - 1))) n 1) (back-one count)
 
 pub asks-length : (bytes : List ℕ) (start n : ℕ) → length (asksAt bytes start n) ≡ n
 unfolding asksAt
-asks-length bytes start n = length-listed (λ i. askedFrom bytes (start + 6 * (i - 1))) n 1
+asks-length bytes start n = length-listed (λ i. askedFrom bytes (start + checkItemBytes * (i - 1))) n 1
 
 -- what reading stores of checks
 abbrev pub storedOf : List ℕ → List Asked → List ℕ
@@ -103,19 +104,19 @@ length-map : {A B : Type 0} (f : A → B) (l : List A) → length (map f l) ≡ 
 length-map f [] = refl
 length-map f (x ∷ l) = ap suc (length-map f l)
 
-pub stored-size : (solution bytes : List ℕ) (start count k : ℕ) → length (storedOf solution (asksLeft bytes start count k)) ≡ 6 * (count + 1 - k)
+pub stored-size : (solution bytes : List ℕ) (start count k : ℕ) → length (storedOf solution (asksLeft bytes start count k)) ≡ checkBytes * (count + 1 - k)
 stored-size solution bytes start count k =
     length-stored (map (judged solution) (asksLeft bytes start count k))
-    ∙ ap (λ (n : ℕ). 6 * n)
+    ∙ ap (λ (n : ℕ). checkBytes * n)
     (length-map (judged solution) (asksLeft bytes start count k)
-    ∙ length-listed (λ i. askedFrom bytes (start + 6 * (i - 1))) (count + 1 - k) k)
+    ∙ length-listed (λ i. askedFrom bytes (start + checkItemBytes * (i - 1))) (count + 1 - k) k)
 
-module _ (bytes : List ℕ) (start count k : ℕ) (b : Board) (cells : ℕ) (c : Asked) (h : k < count + 1) (here : c ≡ askedFrom bytes (start + 6 * (k - 1))) where
+module _ (bytes : List ℕ) (start count k : ℕ) (b : Board) (cells : ℕ) (c : Asked) (h : k < count + 1) (here : c ≡ askedFrom bytes (start + checkItemBytes * (k - 1))) where
   left-is : asksLeft bytes start count k ≡ c ∷ asksLeft bytes start count (k + 1)
   unfolding listed
   left-is =
-      ap (λ (n : ℕ). listed (λ i. askedFrom bytes (start + 6 * (i - 1))) n k) (left-one (count + 1) k h)
-      ∙ (λ j. sym here j ∷ listed (λ i. askedFrom bytes (start + 6 * (i - 1))) (count + 1 - (k + 1)) (sym (add-one k) j))
+      ap (λ (n : ℕ). listed (λ i. askedFrom bytes (start + checkItemBytes * (i - 1))) n k) (left-one (count + 1) k h)
+      ∙ (λ j. sym here j ∷ listed (λ i. askedFrom bytes (start + checkItemBytes * (i - 1))) (count + 1 - (k + 1)) (sym (add-one k) j))
 
   pub stored-turn : storedOf (b .solution) (asksLeft bytes start count k)
       ≡ storedBytes (judged (b .solution) c) ++ storedOf (b .solution) (asksLeft bytes start count (k + 1))
@@ -139,7 +140,7 @@ module _ (bytes : List ℕ) (start count k : ℕ) (b : Board) (cells : ℕ) (c :
 module _ (bytes : List ℕ) (start count k : ℕ) (h : count + 1 ≤ k) where
   pub asks-none : asksLeft bytes start count k ≡ []
   unfolding listed
-  asks-none = ap (λ (n : ℕ). listed (λ i. askedFrom bytes (start + 6 * (i - 1))) n k) (sub-eq-zero-of-le h)
+  asks-none = ap (λ (n : ℕ). listed (λ i. askedFrom bytes (start + checkItemBytes * (i - 1))) n k) (sub-eq-zero-of-le h)
 
   pub check-ends : (b : Board) (cells : ℕ) → checksRefusal b cells k (asksLeft bytes start count k) ≡ accepted
   unfolding checksRefusal

@@ -9,6 +9,7 @@ use lib.ListN.{length, drop, length-append}
 use lib.Seq.{drop-at, drop-drop}
 use Rattle.sudoku.specs.Tests.{pick, listed}
 use Rattle.sudoku.proofs.Each.{Each}
+use Rattle.journal.specs.Limits.{checkItemBytes, givenItemBytes}
 use Rattle.journal.specs.declared.Move.{Move}
 use Rattle.journal.specs.declared.Move.the-variants.{Place, Erase, WriteMark, StrikeMark}
 use Rattle.journal.specs.Slots.{moveOf}
@@ -60,26 +61,26 @@ unfolding encode checkItem
 six c = refl
 
 asks-read : (bytes : List ℕ) (start : ℕ) (cs : List Asked) (i : ℕ) → 1 ≤ i → Each CheckFits cs
-    → drop (start + 6 * (i - 1)) bytes ≡ encodeAll (map checkItem cs)
-    → listed (λ k. askedFrom bytes (start + 6 * (k - 1))) (length cs) i ≡ cs
+    → drop (start + checkItemBytes * (i - 1)) bytes ≡ encodeAll (map checkItem cs)
+    → listed (λ k. askedFrom bytes (start + checkItemBytes * (k - 1))) (length cs) i ≡ cs
 unfolding listed Each encodeAll
 asks-read bytes start [] i l h e = refl
 asks-read bytes start (c ∷ cs) i l h e = λ j. here j ∷ asks-read bytes start cs (suc i) (omega arith) (h .1) on j
   where
-    here : askedFrom bytes (start + 6 * (i - 1)) ≡ c
+    here : askedFrom bytes (start + checkItemBytes * (i - 1)) ≡ c
     here =
-        sym (ask-shift bytes (start + 6 * (i - 1)))
+        sym (ask-shift bytes (start + checkItemBytes * (i - 1)))
         ∙ ap (λ (x : List ℕ). askedFrom x 0) e
         ∙ ask-read c (encodeAll (map checkItem cs)) (h .0)
 
-    next : start + 6 * (suc i - 1) ≡ start + 6 * (i - 1) + 6
+    next : start + checkItemBytes * (suc i - 1) ≡ start + checkItemBytes * (i - 1) + checkItemBytes
     next = omega arith
 
-    on : drop (start + 6 * (suc i - 1)) bytes ≡ encodeAll (map checkItem cs)
+    on : drop (start + checkItemBytes * (suc i - 1)) bytes ≡ encodeAll (map checkItem cs)
     on =
         ap (λ (n : ℕ). drop n bytes) next
-        ∙ sym (drop-drop 6 (start + 6 * (i - 1)) bytes)
-        ∙ ap (drop 6) e
+        ∙ sym (drop-drop checkItemBytes (start + checkItemBytes * (i - 1)) bytes)
+        ∙ ap (drop checkItemBytes) e
         ∙ drop-at (encode (checkItem c)) (encodeAll (map checkItem cs)) 6 (six c)
 
 -- ---- of a record
@@ -103,17 +104,17 @@ module _ (p : Parts) (bytes : List ℕ) (e : recordOf p ≡ bytes) where
   size : length bytes ≡ length (recordOf p)
   size = ap length (sym e)
 
-  pub givens-fit : 4 * length (p .givens) ≤ length bytes
+  pub givens-fit : givenItemBytes * length (p .givens) ≤ length bytes
   givens-fit = omega (arith, size, record-length p)
 
-  pub checks-fit : 6 * length (p .checks) ≤ length bytes
+  pub checks-fit : checkItemBytes * length (p .checks) ≤ length bytes
   checks-fit = omega (arith, size, record-length p)
 
-  pub moves-stand : movesAt bytes (4 * length (p .givens)) (length (p .moves)) ≡ p .moves
+  pub moves-stand : movesAt bytes (givenItemBytes * length (p .givens)) (length (p .moves)) ≡ p .moves
   moves-stand =
-      moves-read bytes (4 * length (p .givens)) (p .moves) (ofCount ++ ofChecks)
-      (ap (drop (4 * length (p .givens))) joined
-      ∙ drop-at ofGivens (ofMoves ++ (ofCount ++ ofChecks)) (4 * length (p .givens)) (length-givens (p .givens)))
+      moves-read bytes (givenItemBytes * length (p .givens)) (p .moves) (ofCount ++ ofChecks)
+      (ap (drop (givenItemBytes * length (p .givens))) joined
+      ∙ drop-at ofGivens (ofMoves ++ (ofCount ++ ofChecks)) (givenItemBytes * length (p .givens)) (length-givens (p .givens)))
 
   front : bytes ≡ (ofGivens ++ (ofMoves ++ ofCount)) ++ ofChecks
   front =
@@ -121,14 +122,14 @@ module _ (p : Parts) (bytes : List ℕ) (e : recordOf p ≡ bytes) where
       ∙ ap (λ (l : List ℕ). ofGivens ++ l) (sym (append-assoc ofMoves ofCount ofChecks))
       ∙ sym (append-assoc ofGivens (ofMoves ++ ofCount) ofChecks)
 
-  front-length : length (ofGivens ++ (ofMoves ++ ofCount)) ≡ length bytes - 6 * length (p .checks)
+  front-length : length (ofGivens ++ (ofMoves ++ ofCount)) ≡ length bytes - checkItemBytes * length (p .checks)
   front-length =
       omega (arith, ap length front, length-append (ofGivens ++ (ofMoves ++ ofCount)) ofChecks, length-checks (p .checks))
 
-  pub asks-stand : Each CheckFits (p .checks) → asksAt bytes (length bytes - 6 * length (p .checks)) (length (p .checks)) ≡ p .checks
+  pub asks-stand : Each CheckFits (p .checks) → asksAt bytes (length bytes - checkItemBytes * length (p .checks)) (length (p .checks)) ≡ p .checks
   unfolding asksAt
   asks-stand h =
-      asks-read bytes (length bytes - 6 * length (p .checks)) (p .checks) 1 (omega arith) h
-      (ap (λ (n : ℕ). drop n bytes) (add-zero (length bytes - 6 * length (p .checks)))
-      ∙ ap (drop (length bytes - 6 * length (p .checks))) front
-      ∙ drop-at (ofGivens ++ (ofMoves ++ ofCount)) ofChecks (length bytes - 6 * length (p .checks)) front-length)
+      asks-read bytes (length bytes - checkItemBytes * length (p .checks)) (p .checks) 1 (omega arith) h
+      (ap (λ (n : ℕ). drop n bytes) (add-zero (length bytes - checkItemBytes * length (p .checks)))
+      ∙ ap (drop (length bytes - checkItemBytes * length (p .checks))) front
+      ∙ drop-at (ofGivens ++ (ofMoves ++ ofCount)) ofChecks (length bytes - checkItemBytes * length (p .checks)) front-length)

@@ -20,7 +20,7 @@ use Rattle.puzzle.specs.Rows.{rowsOf, flat}
 use Rattle.puzzle.proofs.Accepted.{if-not, or-else-left, or-else-right}
 use Rattle.puzzle.proofs.Refusals.{refused-if, or-else-by, or-else-past}
 use Rattle.puzzle.proofs.Rows.{flat-rows}
-use Rattle.journal.specs.Limits.{maxMoves, maxChecks, journalBytes, checkMemory}
+use Rattle.journal.specs.Limits.{maxMoves, maxChecks, journalBytes, checkMemory, checkItemBytes, givenItemBytes}
 use Rattle.journal.specs.Bytes.{over}
 use Rattle.board.specs.declared.Answer.{Answer}
 use Rattle.board.specs.declared.Board.{Board}
@@ -187,21 +187,21 @@ module _ (bytes solution : List ℕ) (s : Scanned) (e : s ≡ readRecord bytes s
     pub few-checks : s .checks ≤ maxChecks
     few-checks = omega (arith, ap (λ (x : Scanned). x .checks) counts, within .checks)
 
-    pub givens-inside : 4 * s .givens ≤ length bytes
+    pub givens-inside : givenItemBytes * s .givens ≤ length bytes
     givens-inside = omega (arith, ap (λ (x : Scanned). x .givens) counts, givens-fit parts bytes whole)
 
-    pub checks-inside : 6 * s .checks ≤ length bytes
+    pub checks-inside : checkItemBytes * s .checks ≤ length bytes
     checks-inside = omega (arith, ap (λ (x : Scanned). x .checks) counts, asks-fit parts bytes whole)
 
     givens-here : givensIn Items bytes (s .givens) ≡ parts .givens
     givens-here = ap (λ (x : Scanned). givensIn Items bytes (x .givens)) counts ∙ givens-read bytes are form
 
-    moves-here : movesAt bytes (4 * s .givens) (s .moves) ≡ parts .moves
-    moves-here = ap (λ (x : Scanned). movesAt bytes (4 * x .givens) (x .moves)) counts ∙ moves-stand parts bytes whole
+    moves-here : movesAt bytes (givenItemBytes * s .givens) (s .moves) ≡ parts .moves
+    moves-here = ap (λ (x : Scanned). movesAt bytes (givenItemBytes * x .givens) (x .moves)) counts ∙ moves-stand parts bytes whole
 
-    asks-here : asksAt bytes (length bytes - 6 * s .checks) (s .checks) ≡ parts .checks
+    asks-here : asksAt bytes (length bytes - checkItemBytes * s .checks) (s .checks) ≡ parts .checks
     asks-here =
-        ap (λ (x : Scanned). asksAt bytes (length bytes - 6 * x .checks) (x .checks)) counts
+        ap (λ (x : Scanned). asksAt bytes (length bytes - checkItemBytes * x .checks) (x .checks)) counts
         ∙ asks-stand parts bytes whole (checks-fit bytes are form)
 
     module _
@@ -217,12 +217,12 @@ module _ (bytes solution : List ℕ) (s : Scanned) (e : s ≡ readRecord bytes s
       module _
           (a : Answer)
           (out : List ℕ)
-          (p : a ≡ replay b memory 1 (movesAt bytes (4 * s .givens) (s .moves)) .answer)
-          (q : out ≡ replay b memory 1 (movesAt bytes (4 * s .givens) (s .moves)) .journal) where
+          (p : a ≡ replay b memory 1 (movesAt bytes (givenItemBytes * s .givens) (s .moves)) .answer)
+          (q : out ≡ replay b memory 1 (movesAt bytes (givenItemBytes * s .givens) (s .moves)) .journal) where
         abbrev all : Played
         all = replay (fresh (parts .givens) solution) noMoves 1 (parts .moves)
 
-        plays : replay b memory 1 (movesAt bytes (4 * s .givens) (s .moves)) ≡ all
+        plays : replay b memory 1 (movesAt bytes (givenItemBytes * s .givens) (s .moves)) ≡ all
         plays =
             λ j. replay ((w ∙ (λ i. fresh (givens-here i) (flat-rows solution full i))) j) (none j) 1 (moves-here j)
 
@@ -242,7 +242,7 @@ module _ (bytes solution : List ℕ) (s : Scanned) (e : s ≡ readRecord bytes s
             ∙ ap (λ (x : Answer). turnedAway (x .refusal)) (sym answers)
 
         pub plays-on : a .refusal .number ≡ 0
-            → reopenedOf bytes solution ≡ settledBy (s .undone) (asksAt bytes (length bytes - 6 * s .checks) (s .checks)) (a .board) out
+            → reopenedOf bytes solution ≡ settledBy (s .undone) (asksAt bytes (length bytes - checkItemBytes * s .checks) (s .checks)) (a .board) out
         unfolding isAccepted settledBy settledRecord
         plays-on n =
             opens

@@ -4,6 +4,7 @@ use Prim.Native.Nat.{ℕ, _≤_, _+_, _-_, _*_}
 use mathlib.Core.Path.{_≡_, refl, sym, ap, _∙_}
 use mathlib.Core.List.{List}
 use native.Mathlib.Omega.{arith}
+use Rattle.journal.specs.Limits.{checkItemBytes, checkBytes}
 use Rattle.journal.specs.Bytes.{over}
 use Rattle.journal.specs.StoredChecks.{storedBytes, judged}
 use Rattle.journal.proofs.Memory.{stored-length}
@@ -18,9 +19,9 @@ use Rattle.reopen.proofs.read_checks.Tie as tie
 
 abbrev Inv-loop : tie.InvT-loop
 Inv-loop bytes start count board checks₀ cells at₀ k₀ checks at k =
-    (1 ≤ k) × (k ≤ count + 1) × (at ≡ start + 6 * (k - 1))
+    (1 ≤ k) × (k ≤ count + 1) × (at ≡ start + checkItemBytes * (k - 1))
     × (checksRefusal board cells 1 (asksLeft bytes start count 1) ≡ checksRefusal board cells k (asksLeft bytes start count k))
-    × Laying checks₀ 0 (storedOf (board .solution) (asksLeft bytes start count 1)) checks (6 * (k - 1)) (storedOf (board .solution) (asksLeft bytes start count k))
+    × Laying checks₀ 0 (storedOf (board .solution) (asksLeft bytes start count 1)) checks (checkBytes * (k - 1)) (storedOf (board .solution) (asksLeft bytes start count k))
 
 abbrev μ-loop : tie.MeasureT-loop
 μ-loop bytes start count board checks₀ cells at₀ k₀ checks at k =

@@ -13,6 +13,7 @@ use Rattle.reopen.specs.Reopening.{asksAt}
 use Rattle.reopen.proofs.Checking.{asks-length, storedOf}
 use Rattle.reopen.proofs.Settling.{reopens-refused, reopens-given, no-checks-length, settled-30, settled-refused, settled-gives}
 use Prim.Native.Nat.{ℕ}
+use Rattle.journal.specs.Limits.{checkItemBytes}
 use Rattle.reopen.proofs.settle.Statement.{statement}
 use Rattle.reopen.proofs.settle.Tie as tie
 use borrow.Author.Needs.{needs}
@@ -26,7 +27,7 @@ refusal-requires c κs = search needs
 returns : tie.Need-returns
 returns c =
     let a = c .before .before .before .before .before .before .args in
-    reopens-refused _ _ _ _ (refusal 30 0 0) (settled-30 (a .undone) (asksAt (a .bytes .now) (length (a .bytes .now) - 6 * a .count) (a .count)) (a .board) (a .journal .now) (sym (c .before .before .is-undone-solved .ensures) ∙ c .before .if1 .taken)) (c .refusal .ensures) (eqb-false 30 0 refl)
+    reopens-refused _ _ _ _ (refusal 30 0 0) (settled-30 (a .undone) (asksAt (a .bytes .now) (length (a .bytes .now) - checkItemBytes * a .count) (a .count)) (a .board) (a .journal .now) (sym (c .before .before .is-undone-solved .ensures) ∙ c .before .if1 .taken)) (c .refusal .ensures) (eqb-false 30 0 refl)
 
 taken-back-requires : tie.Need-taken-back-requires
 taken-back-requires c κs = search needs
@@ -50,7 +51,7 @@ returns-2 c =
     let a = c .before .before .before .before .before .before .before .before .before .before .before .before .args in
     let take-back-all = c .before .before .before .before .before .before .taken-back in
     let read-checks = c .before .before .before .before .read-checks in
-    reopens-refused _ _ _ _ (read-checks .result) (settled-refused (a .undone) (asksAt (a .bytes .now) (length (a .bytes .now) - 6 * a .count) (a .count)) (a .board) (a .journal .now) (sym (c .before .before .before .before .before .before .before .before .is-undone-solved .ensures) ∙ c .before .before .before .before .before .before .before .if1 .left) (take-back-all .result) (take-back-all .ensures) (read-checks .result) (read-checks .ensures .0) (c .if2 .taken)) refl (c .if2 .taken)
+    reopens-refused _ _ _ _ (read-checks .result) (settled-refused (a .undone) (asksAt (a .bytes .now) (length (a .bytes .now) - checkItemBytes * a .count) (a .count)) (a .board) (a .journal .now) (sym (c .before .before .before .before .before .before .before .before .is-undone-solved .ensures) ∙ c .before .before .before .before .before .before .before .if1 .left) (take-back-all .result) (take-back-all .ensures) (read-checks .result) (read-checks .ensures .0) (c .if2 .taken)) refl (c .if2 .taken)
 
 accepted-requires : tie.Need-accepted-requires
 accepted-requires c κs = search needs
@@ -66,9 +67,9 @@ returns-3 c =
     let read-checks = c .before .before .before .before .before .read-checks in
     let accepted = c .accepted in
     reopens-given _ _ _ _
-    (settled-gives (a .undone) (asksAt (a .bytes .now) (length (a .bytes .now) - 6 * a .count) (a .count)) (a .board) (a .journal .now) (sym (c .before .before .before .before .before .before .before .before .before .is-undone-solved .ensures) ∙ c .before .before .before .before .before .before .before .before .if1 .left) (take-back-all .result) (take-back-all .ensures) (read-checks .result) (read-checks .ensures .0) (c .before .if2 .left) (accepted .result) (a .count) _ (accepted .ensures)
-    (sym (asks-length (a .bytes .now) (length (a .bytes .now) - 6 * a .count) (a .count)))
-    (read-checks .ensures .1 (c .before .if2 .left) ∙ ap (λ (l : List ℕ). over l 0 (storedOf (take-back-all .result .solution) (asksAt (a .bytes .now) (length (a .bytes .now) - 6 * a .count) (a .count)))) (c .before .before .before .before .before .before .before .before .before .before .before .before .before .pre .2)))
+    (settled-gives (a .undone) (asksAt (a .bytes .now) (length (a .bytes .now) - checkItemBytes * a .count) (a .count)) (a .board) (a .journal .now) (sym (c .before .before .before .before .before .before .before .before .before .is-undone-solved .ensures) ∙ c .before .before .before .before .before .before .before .before .if1 .left) (take-back-all .result) (take-back-all .ensures) (read-checks .result) (read-checks .ensures .0) (c .before .if2 .left) (accepted .result) (a .count) _ (accepted .ensures)
+    (sym (asks-length (a .bytes .now) (length (a .bytes .now) - checkItemBytes * a .count) (a .count)))
+    (read-checks .ensures .1 (c .before .if2 .left) ∙ ap (λ (l : List ℕ). over l 0 (storedOf (take-back-all .result .solution) (asksAt (a .bytes .now) (length (a .bytes .now) - checkItemBytes * a .count) (a .count)))) (c .before .before .before .before .before .before .before .before .before .before .before .before .before .pre .2)))
 
 pub settle-spec : {M : Type 1} → statement M
 settle-spec =

@@ -6,6 +6,7 @@ use mathlib.Core.Bool.{not}
 use borrow.Author.Tests.{leb-true, leb-false, lt-ltb, le-ltb}
 use lib.Dec.{leb, ltb}
 use Rattle.sudoku.proofs.Walks.{by-test, either-left, either-second}
+use Rattle.journal.specs.Limits.{maxMoves}
 use Rattle.record.proofs.scan.late_too.Statement.{statement}
 use Rattle.record.proofs.scan.late_too.Tie as tie
 
@@ -19,7 +20,7 @@ returns c =
 
 returns-2 : tie.Need-returns-2
 returns-2 c =
-    above 1024 (c .before .args .standing) ∙ sym (either-second _ _ (c .if1 .left))
+    above maxMoves (c .before .args .standing) ∙ sym (either-second _ _ (c .if1 .left))
 
 pub late-too-spec : {M : Type 1} → statement M
 late-too-spec = tie.close (tie.spec returns returns-2)

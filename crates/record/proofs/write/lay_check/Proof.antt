@@ -4,6 +4,7 @@ use Prim.Native.Nat.{ℕ, _*_}
 use mathlib.Core.Path.{ap, _∙_}
 use mathlib.Core.List.{[], _∷_}
 use native.Mathlib.Omega.{arith}
+use Rattle.journal.specs.Limits.{checkBytes}
 use Rattle.journal.specs.Bytes.{over}
 use Rattle.journal.specs.StoredChecks.{checkStart}
 use Rattle.record.proofs.Laying.{check-bytes, six-laid}
@@ -65,7 +66,7 @@ returns c =
     let byte-at5 = c .before .before .before .before .before .before .before .before .byte-at5 in
     let lay-three = c .before .before .before .before .before .before .lay-three in
     let lay-three2 = c .before .before .lay-three2 in
-    let start = 6 * index-of .result in
+    let start = checkBytes * index-of .result in
     let row = byte-at3 .result in
     let column = byte-at4 .result in
     let digit = byte-at5 .result in (
@@ -74,7 +75,7 @@ returns c =
           ∙ (λ j. over (lay-three .ensures .1 j) (lay-three .ensures .0 j) (row ∷ column ∷ digit ∷ []))
           ∙ six-laid (a .output .now) (a .at) 7 (byte-at .result) (byte-at2 .result) row column digit (c .before .before .before .before .before .before .before .before .before .before .before .before .before .before .before .before .pre .1)
           ∙ ap (over (a .output .now) (a .at))
-          (check-bytes (a .checks .now) (a .n) start (ap (λ (k : ℕ). 6 * k) (index-of .ensures))
+          (check-bytes (a .checks .now) (a .n) start (ap (λ (k : ℕ). checkBytes * k) (index-of .ensures))
           (λ i. omega (arith, c .before .before .before .before .before .before .before .before .before .before .before .before .before .before .before .shared-slice-known .given i)) (byte-at .result) (byte-at2 .result) row column digit (byte-at .ensures)
           (byte-at2 .ensures) (byte-at3 .ensures) (byte-at4 .ensures) (byte-at5 .ensures)),
     )

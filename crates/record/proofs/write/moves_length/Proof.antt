@@ -4,6 +4,7 @@ use Prim.Native.Nat.{_≤_, _+_, _-_, _*_}
 use mathlib.Core.Path.{_≡_, ap, _∙_}
 use native.Mathlib.Omega.{arith}
 use lib.ListN.{length, length-append}
+use Rattle.journal.specs.Limits.{moveItemBytes}
 use Rattle.journal.specs.declared.Move.{Move}
 use Rattle.journal.specs.Slots.{moveOf}
 use Rattle.record.specs.declared.Item.the-variants.{Played}
@@ -16,7 +17,7 @@ use Rattle.record.proofs.write.moves_length.Tie as tie
 
 abbrev Inv-loop : tie.InvT-loop
 Inv-loop journal made total₀ n₀ total n =
-    (1 ≤ n) × (n ≤ made + 1) × (total ≤ 4 * (n - 1))
+    (1 ≤ n) × (n ≤ made + 1) × (total ≤ moveItemBytes * (n - 1))
     × (total + length (itemsLeft Played (moveIn journal) (made + 1) n) ≡ length (movesBytes journal made))
 
 abbrev μ-loop : tie.MeasureT-loop
