@@ -2,7 +2,10 @@
 use crate::counted;
 use crate::number;
 use crate::say;
+use journal::ERASE;
+use journal::PLACE;
 use journal::Slot;
+use journal::WRITE_MARK;
 use sudoku::PEERS_PER_CELL;
 use sudoku::cell_of;
 use sudoku::column_of;
@@ -53,15 +56,26 @@ fn displaced(slot: Slot) {
     }
 }
 
+// The kind of a move, in a word.
+fn kind_word(kind: u8) {
+    if kind == PLACE {
+        say(b"place ");
+        return;
+    }
+    if kind == ERASE {
+        say(b"erase");
+        return;
+    }
+    if kind == WRITE_MARK {
+        say(b"mark ");
+        return;
+    }
+    say(b"strike ");
+}
+
 // What a move did.
 fn deed(slot: Slot) {
-    let kind = slot.kind;
-    match kind {
-        2 => say(b"place "),
-        3 => say(b"erase"),
-        4 => say(b"mark "),
-        _ => say(b"strike "),
-    }
+    kind_word(slot.kind);
     if slot.digit != 0 {
         number(wide(slot.digit));
     }
