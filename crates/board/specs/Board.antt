@@ -3,12 +3,13 @@
 use Prim.Native.Nat.{ℕ}
 use mathlib.Core.Bool.{Bool, not}
 use mathlib.Core.List.{List, _∷_}
-use lib.Dec.{leb}
+use lib.Dec.{leb, eqb}
 use lib.ListN.{replicate}
 use Rattle.sudoku.specs.Tests.{Test, _⇒_, both, every}
 use Rattle.sudoku.specs.Grid.{inRange, at}
 use Rattle.note.specs.Note.{isNote}
 use Rattle.puzzle.specs.declared.Given.{Given}
+use Rattle.puzzle.specs.Givens.{isOn}
 use Rattle.journal.specs.Limits.{maxMoves, maxChecks}
 use Rattle.journal.specs.declared.Counts.{Counts}
 use Rattle.journal.specs.Counts.{counts}
@@ -54,10 +55,13 @@ boardOf s solution c checks =
 unfoldable pub moved : Board → State → Counts → Board
 moved b s c = boardOf s (b .solution) c (b .checks)
 
--- of a cell of the board value: no digit above 9, no flag other than 0 and 1, no given with digit 0
+-- no digit above 9, no flag other than 0 and 1, no given with digit 0
+unfoldable pub mayStand : ℕ → ℕ → Bool
+mayStand digit flag = both (leb digit 9) (both (leb flag 1) (not (both (isOn flag) (eqb digit 0))))
+
+-- of a cell of the board value: its digit and its flag
 unfoldable pub digitValue : List ℕ → List ℕ → ℕ → Bool
-digitValue digits given cell =
-    both (leb (at digits cell) 9) (both (leb (at given cell) 1) (leb (at given cell) (at digits cell)))
+digitValue digits given cell = mayStand (at digits cell) (at given cell)
 
 -- no note bit other than 1 to 9
 unfoldable pub noteValue : List ℕ → ℕ → Bool

@@ -7,26 +7,38 @@ use sudoku::SIDE;
 ghost use mathlib.Core.Path.{_≡_};
 ghost use mathlib.Core.List.{[]};
 ghost use Prim.Native.Nat.{_≤_};
-ghost use lib.Dec.{leb};
-ghost use Rattle.sudoku.specs.Tests.{both, every, first};
+ghost use lib.Dec.{eqb};
+ghost use Rattle.sudoku.specs.Tests.{pick, both, every, first};
 ghost use Rattle.sudoku.specs.Grid.{inRange};
 ghost use Rattle.note.specs.Note.{isNote};
-ghost use Rattle.board.specs.Board.{isBoard, digitValue, noteValue, solutionValue, lentTests};
+ghost use Rattle.board.specs.Board.{isBoard, mayStand, digitValue, noteValue, solutionValue, lentTests};
 
-// What was found so far, and a cell's digit and flag: no digit above 9, no flag above 1, and no given without a digit.
-fn digit_step(ok: bool, digit: u8, given: u8) -> bool
-    ensures { λ r. ⌜ r ≡ both ok (both (leb digit 9) (both (leb given 1) (leb given digit))) ⌝ }
+// The greatest flag that may stand beside a digit: a cell without one is no given.
+fn greatest_flag(digit: u8) -> u8
+    ensures { λ r. ⌜ r ≡ pick (eqb digit 0) 0 1 ⌝ }
 {
-    ok & (digit <= SIDE) & (given <= 1) & (given <= digit)
+    if digit == 0 {
+        return 0;
+    }
+    1
 }
 
-fn digit_values<'a>(digits: &'a [u8; 81], given: &'a [u8; 81]) -> bool
-    ensures { λ r. ⌜ r ≡ every (digitValue (now (digits .entry)) (now (given .entry))) 81 1 ⌝ }
+// What was found so far, and a cell's digit and flag and the solution's digit.
+fn cell_step(ok: bool, digit: u8, given: u8, right: u8) -> bool
+    ensures { λ r. ⌜ r ≡ both ok (both (mayStand digit given) (inRange right)) ⌝ }
+{
+    let flag = greatest_flag(digit);
+    ok & (digit <= SIDE) & (given <= flag) & (right >= 1) & (right <= SIDE)
+}
+
+// The digits, the flags and the solution are asked in one loop: in two it takes a nanosecond more in every call.
+fn cell_values<'a>(digits: &'a [u8; 81], given: &'a [u8; 81], solution: &'a [u8; 81]) -> bool
+    ensures { λ r. ⌜ r ≡ both (every (digitValue (now (digits .entry)) (now (given .entry))) 81 1) (every (solutionValue (now (solution .entry))) 81 1) ⌝ }
 {
     let mut ok = true;
     let mut i: usize = 0;
     while i < CELLS {
-        ok = digit_step(ok, digits[i], given[i]);
+        ok = cell_step(ok, digits[i], given[i], solution[i]);
         i += 1;
     }
     ok
@@ -53,27 +65,6 @@ fn note_values(notes: &[u16; 81]) -> bool
     ok
 }
 
-fn solution_step(ok: bool, digit: u8) -> bool
-    ensures { λ r. ⌜ r ≡ both ok (inRange digit) ⌝ }
-{
-    if sudoku::in_range(digit) {
-        return ok;
-    }
-    false
-}
-
-fn solution_values(solution: &[u8; 81]) -> bool
-    ensures { λ r. ⌜ r ≡ every (solutionValue (now (solution .entry))) 81 1 ⌝ }
-{
-    let mut ok = true;
-    let mut i: usize = 0;
-    while i < CELLS {
-        ok = solution_step(ok, solution[i]);
-        i += 1;
-    }
-    ok
-}
-
 // Whether number 2 does not speak of the board value.
 pub fn is_board(board: Board) -> bool
     ensures { λ r. ⌜ r ≡ isBoard board ⌝ }
@@ -90,13 +81,10 @@ pub fn is_board(board: Board) -> bool
     if board.solved > 1 {
         return false;
     }
-    if !digit_values(&board.digits, &board.given) {
-        return false;
-    }
     if !note_values(&board.notes) {
         return false;
     }
-    solution_values(&board.solution)
+    cell_values(&board.digits, &board.given, &board.solution)
 }
 
 // 1 and 2, which every call with a board and lent memory asks first; `fits` says that the memory has its length.

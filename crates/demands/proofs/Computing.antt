@@ -75,7 +75,7 @@ unfolding checks.isRight checks.storedBytes checks.storedAll checks.checkStart c
 of-stored-checks = 0
 
 unfoldable of-board : ℕ
-unfolding board.stateOf board.countsOf board.boardOf board.moved board.digitValue board.noteValue board.solutionValue board.isBoard board.fresh board.zeroBoard
+unfolding board.stateOf board.countsOf board.boardOf board.moved board.mayStand board.digitValue board.noteValue board.solutionValue board.isBoard board.fresh board.zeroBoard
 of-board = 0
 
 unfoldable of-open : ℕ

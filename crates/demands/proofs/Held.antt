@@ -9,11 +9,11 @@ use native.Mathlib.Omega.{arith}
 use lib.ListN.{length, take, drop, length-append}
 use lib.Seq.{take-at, take-take, length-take-le}
 use lib.Dec.{eqb}
-use borrow.Author.Tests.{le-leb, eqb-true}
+use borrow.Author.Tests.{le-leb, ne-eqb}
 use Rattle.sudoku.specs.Tests.{Test, first, both}
 use Rattle.puzzle.specs.Givens.{isGiven}
 use Rattle.puzzle.specs.Puzzle.{isFull, isConsistent}
-use Rattle.sudoku.proofs.Walks.{bit-le, both-true, by-test, every-of, no-if, not-is-false}
+use Rattle.sudoku.proofs.Walks.{bit-le, both-true, both-false-left, both-false-right, by-test, every-of, no-if, not-is-false}
 use Rattle.sudoku.specs.Grid.{inRange, isCell, at}
 use Rattle.sudoku.proofs.Grid.{is-cell}
 use Rattle.journal.specs.declared.Move.{Move}
@@ -26,7 +26,7 @@ use Rattle.journal.specs.Slots.{slotFor, bytesOf, slotAt}
 use Rattle.journal.specs.StoredChecks.{Stored, storedBytes, storedAll}
 use Rattle.journal.proofs.Moves.{Fit}
 use Rattle.journal.proofs.Memory.{length-over, take-over-end}
-use Rattle.board.specs.Board.{boardOf, isBoard, lentTests, digitValue, noteValue, solutionValue}
+use Rattle.board.specs.Board.{boardOf, isBoard, lentTests, mayStand, digitValue, noteValue, solutionValue}
 use Rattle.calls.specs.declared.Call.the-variants.{Make, Check}
 use Rattle.demands.specs.Book.{Book, made, performAll, stateIn, slotsFrom, slotsIn, taken, withMoves, checkIn}
 use Rattle.demands.specs.Demand3.{boardIn}
@@ -38,7 +38,7 @@ use Rattle.demands.proofs.Slots.{journal-slot}
 
 module _ (s : State) (solution : List ℕ) (c : Counts) (n : ℕ) (f : Fit s) (digits : (cell : ℕ) → isCell cell ≡ true → inRange (at solution cell) ≡ true) where
   pub fit-board : c .made ≤ maxMoves → c .standing ≤ c .made → n ≤ maxChecks → isBoard (boardOf s solution c n) ≡ true
-  unfolding isBoard boardOf digitValue noteValue solutionValue digitAt noteAt isGiven
+  unfolding isBoard boardOf digitValue mayStand noteValue solutionValue digitAt noteAt isGiven
   fit-board a b d =
       both-true _ _ (le-leb (c .made) maxMoves a)
       (both-true _ _ (le-leb (c .standing) (c .made) b)
@@ -50,8 +50,8 @@ module _ (s : State) (solution : List ℕ) (c : Counts) (n : ℕ) (f : Fit s) (d
       let is : isCell cell ≡ true = is-cell cell l (omega arith) in
       both-true _ _ (le-leb (at (s .digits) cell) 9 (f .digits cell is))
       (both-true _ _ (le-leb (at (s .given) cell) 1 (f .flags cell is))
-      (by-test (eqb (at (s .given) cell) 0) (λ t. le-leb (at (s .given) cell) (at (s .digits) cell) (omega (arith, eqb-true (at (s .given) cell) 0 t)))
-      (λ t. le-leb (at (s .given) cell) (at (s .digits) cell) (omega (arith, f .flags cell is, f .givens cell is (ap not t))))))))
+      (by-test (eqb (at (s .given) cell) 0) (λ t. ap not (both-false-left _ _ (ap not t)))
+      (λ t. ap not (both-false-right _ _ (ne-eqb (at (s .digits) cell) 0 (λ e. omega (arith, e, f .givens cell is (ap not t))))))))))
       (both-true _ _ (every-of (noteValue (s .notes)) 81 1 (λ cell l u. f .notes cell (is-cell cell l (omega arith))))
       (every-of (solutionValue solution) 81 1 (λ cell l u. digits cell (is-cell cell l (omega arith)))))))))
 

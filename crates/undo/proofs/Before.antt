@@ -10,7 +10,7 @@ use borrow.Author.Tests.{leb-false}
 use lib.ListN.{length}
 use Rattle.sudoku.specs.Tests.{Test, _⇒_, first, both}
 use Rattle.sudoku.specs.Grid.{cellOf}
-use Rattle.sudoku.proofs.Walks.{refused, passed}
+use Rattle.sudoku.proofs.Walks.{refused, passed, both-first, both-false-left}
 use Rattle.puzzle.specs.Refusals.{refusal}
 use Rattle.journal.specs.declared.Slot.{Slot}
 use Rattle.journal.specs.State.{State}
@@ -23,28 +23,33 @@ use Rattle.board.proofs.Numbers.{last-if}
 use Rattle.play.specs.Play.{undoBefore, redoBefore, slotRefusal, canTakeBack, canRetake, undoTests, undoOf, redoTests, redoOf}
 use Rattle.play.proofs.Joined.{Numbered, join-refused, join-passed}
 use Rattle.play.proofs.Accepted.{slot-plain, slot-14, undo-refused, redo-refused}
-use Rattle.undo.specs.Halves.{struckCells, digitLeft, digitFound, marksLeft, marksFound}
+use Rattle.undo.specs.Halves.{digitLeft, digitFound, marksLeft, marksFound}
 use Rattle.undo.proofs.Parts.{left-parts, found-parts}
 
--- ---- the slot, asked of a state's parts, all three questions in any case
+-- ---- the slot: its soundness, and what stands asked of a state's parts where it is sound
 
--- the second and the third question count where the slot is sound
-all-three : (a b c d : Bool) → (a ≡ true → both b c ≡ d) → ((a && b) && c) ≡ both a d
+and-both : (a b : Bool) → (a && b) ≡ both a b
 unfolding both
-all-three true true c d h = h refl
-all-three true false c d h = h refl
-all-three false b c d h = refl
+and-both true b = refl
+and-both false b = refl
 
 module _ (s : State) (slot : Slot) where
-  pub take-back-parts : ((isSound (s .given) slot && digitLeft (s .digits) (cellOf (slot .row) (slot .column)) (digitChange slot)) && marksLeft (s .notes) (moveOf slot) (slot .struck) (struckCells slot))
-      ≡ canTakeBack s slot
+  pub back-unsound : isSound (s .given) slot ≡ false → canTakeBack s slot ≡ false
   unfolding canTakeBack
-  take-back-parts = all-three _ _ _ _ (left-parts s slot)
+  back-unsound h = both-false-left _ _ h
 
-  pub retake-parts : ((isSound (s .given) slot && digitFound (s .digits) (cellOf (slot .row) (slot .column)) (digitChange slot)) && marksFound (s .notes) (moveOf slot) (slot .struck) (struckCells slot))
-      ≡ canRetake s slot
+  pub again-unsound : isSound (s .given) slot ≡ false → canRetake s slot ≡ false
   unfolding canRetake
-  retake-parts = all-three _ _ _ _ (found-parts s slot)
+  again-unsound h = both-false-left _ _ h
+
+  module _ (h : isSound (s .given) slot ≡ true) where
+    pub take-back-parts : (digitLeft (s .digits) (cellOf (slot .row) (slot .column)) (digitChange slot) && marksLeft (s .notes) (moveOf slot) (slot .struck)) ≡ canTakeBack s slot
+    unfolding canTakeBack
+    take-back-parts = and-both _ _ ∙ left-parts s slot h ∙ sym (both-first _ _ h)
+
+    pub retake-parts : (digitFound (s .digits) (cellOf (slot .row) (slot .column)) (digitChange slot) && marksFound (s .notes) (moveOf slot) (slot .struck)) ≡ canRetake s slot
+    unfolding canRetake
+    retake-parts = and-both _ _ ∙ found-parts s slot h ∙ sym (both-first _ _ h)
 
 -- ---- a call whose last test is 14: the tests before it gave the number n, and `unfit` says that the slot does not fit
 

@@ -1,6 +1,6 @@
 -- A recorded move taken back and performed again by parts: the givens stay, the digits
 -- and the status come from the digits and the status, the notes from the notes.
--- And a mask of 0, which speaks of no peer: where a slot's is 0, twenty zeros serve as well as the peers.
+-- And a mask of 0, which speaks of no peer.
 -- Assumes nothing.
 use Prim.Native.Nat.{ℕ, _+_, _-_, _<_}
 use mathlib.Core.Path.{_≡_, refl, sym, ap, _∙_}
@@ -28,7 +28,7 @@ use Rattle.journal.specs.Slots.{moveOf, digitChange, soundPlace, isSound, isFre
 use Rattle.journal.proofs.SlotLaws.{sound-place}
 use Rattle.journal.proofs.InTurn.{lack-peers, have-peers}
 use Rattle.play.specs.Parts.{parts}
-use Rattle.undo.specs.Halves.{digitBack, digitAgain, slotToRedo, struckCells, marksBack, marksAgain, digitLeft, digitFound, marksLeft, marksFound}
+use Rattle.undo.specs.Halves.{digitBack, digitAgain, slotToRedo, marksBack, marksAgain, digitLeft, digitFound, marksLeft, marksFound}
 
 -- ---- the next move to redo
 
@@ -72,45 +72,16 @@ pub have-none : (notes : List ℕ) (d : ℕ) (cells : List ℕ) → noneMissingI
 unfolding noneMissingInTurn
 have-none notes d cells = in-turn-none _ _ notes cells
 
--- a walk by a slot's mask over the cells it speaks of is the walk over the peers
-module _ (slot : Slot) where
-  by-struck : {A : Type 0} (walk : ℕ → List ℕ → A) (none : A) → ((cells : List ℕ) → walk 0 cells ≡ none)
-      → walk (slot .struck) (struckCells slot) ≡ walk (slot .struck) (peersOf (cellOf (slot .row) (slot .column)))
-  unfolding struckCells
-  by-struck walk none h =
-      let ps = peersOf (cellOf (slot .row) (slot .column)) in
-      let cells = pick (eqb (slot .struck) 0) (replicate 20 0) ps in
-      by-test (eqb (slot .struck) 0)
-      (λ t. ap (λ (n : ℕ). walk n cells) (eqb-true _ _ t) ∙ h cells ∙ sym (ap (λ (n : ℕ). walk n ps) (eqb-true _ _ t) ∙ h ps))
-      (λ f. ap (walk (slot .struck)) (pick-false _ _ _ f))
+-- ---- what is asked in turn of the peers is what is asked of them all, where the slot is sound
 
-  write-struck : (notes : List ℕ) (d : ℕ) → writeMasked notes d (slot .struck) (struckCells slot) ≡ writeMasked notes d (slot .struck) (peersOf (cellOf (slot .row) (slot .column)))
-  write-struck notes d = by-struck (λ mask cells. writeMasked notes d mask cells) notes (write-none notes d)
+module _ (slot : Slot) (given : List ℕ) (h : isSound given slot ≡ true) where
+  sound-cell : isCell (cellOf (slot .row) (slot .column)) ≡ true
+  unfolding isSound isFree
+  sound-cell = cell-of-is-cell _ _ (both-left _ _ (both-left _ _ h))
 
-  strike-struck : (notes : List ℕ) (d : ℕ) → strikeMasked notes d (slot .struck) (struckCells slot) ≡ strikeMasked notes d (slot .struck) (peersOf (cellOf (slot .row) (slot .column)))
-  strike-struck notes d = by-struck (λ mask cells. strikeMasked notes d mask cells) notes (strike-none notes d)
-
-  -- and so are the two that ask in turn, where the slot is sound
-  module _ (given : List ℕ) (h : isSound given slot ≡ true) where
-    sound-cell : isCell (cellOf (slot .row) (slot .column)) ≡ true
-    unfolding isSound isFree
-    sound-cell = cell-of-is-cell _ _ (both-left _ _ (both-left _ _ h))
-
-    sound-digit : eqb (slot .kind) placeKind ≡ true → inRange (slot .digit) ≡ true
-    unfolding isSound isFree soundPlace
-    sound-digit k = both-left _ _ (sym (sound-place given slot (both-left _ _ h) (eqb-true _ _ k)) ∙ h)
-
-    lack-struck : (notes : List ℕ) (d : ℕ) → lackInTurn notes d (slot .struck) (struckCells slot)
-        ≡ everyMasked (λ peer. not (contains (at notes peer) d)) (slot .struck) (peersOf (cellOf (slot .row) (slot .column)))
-    lack-struck notes d =
-        by-struck (λ mask cells. lackInTurn notes d mask cells) true (lack-none notes d)
-        ∙ lack-peers notes d (slot .struck) (cellOf (slot .row) (slot .column)) sound-cell
-
-    have-struck : (notes : List ℕ) (d : ℕ) → inRange d ≡ true → noneMissingInTurn notes d (slot .struck) (struckCells slot)
-        ≡ everyMasked (λ peer. contains (at notes peer) d) (slot .struck) (peersOf (cellOf (slot .row) (slot .column)))
-    have-struck notes d r =
-        by-struck (λ mask cells. noneMissingInTurn notes d mask cells) true (have-none notes d)
-        ∙ have-peers notes d (slot .struck) (cellOf (slot .row) (slot .column)) sound-cell r
+  sound-digit : eqb (slot .kind) placeKind ≡ true → inRange (slot .digit) ≡ true
+  unfolding isSound isFree soundPlace
+  sound-digit k = both-left _ _ (sym (sound-place given slot (both-left _ _ h) (eqb-true _ _ k)) ∙ h)
 
 -- ---- the whole, by what the tests of the kind byte say: a place, an erase, a mark written
 
@@ -121,32 +92,32 @@ moveBy row column digit p e w = pick p (Place row column digit) (pick e (Erase r
 abbrev changeBy : ℕ → ℕ → Bool → Bool → DigitChange
 changeBy before digit p e = pick p (Put before digit) (pick e (Put before 0) None)
 
-module _ (s : State) (row column digit before mask : ℕ) (cells : List ℕ) where
-  back-by : writeMasked (s .notes) digit mask cells ≡ writeMasked (s .notes) digit mask (peersOf (cellOf row column)) → (p e w : Bool)
+module _ (s : State) (row column digit before mask : ℕ) where
+  back-by : (p e w : Bool)
       → parts (s .given) (digitBack s (cellOf row column) (changeBy before digit p e) .digits)
-      (marksBack s (moveBy row column digit p e w) mask cells .notes)
+      (marksBack s (moveBy row column digit p e w) mask .notes)
       (digitBack s (cellOf row column) (changeBy before digit p e) .solved)
       ≡ takeBack s (moveBy row column digit p e w) before mask
   unfolding pick marksBack digitBack takeBack withNotes putDigit
-  back-by h true e w = ap (λ (notes : List ℕ). parts (s .given) (putDigit s (cellOf row column) before .digits) notes (putDigit s (cellOf row column) before .solved)) h
-  back-by h false true w = refl
-  back-by h false false true = refl
-  back-by h false false false = refl
+  back-by true e w = refl
+  back-by false true w = refl
+  back-by false false true = refl
+  back-by false false false = refl
 
-  again-by : strikeMasked (s .notes) digit mask cells ≡ strikeMasked (s .notes) digit mask (peersOf (cellOf row column)) → (p e w : Bool)
+  again-by : (p e w : Bool)
       → parts (s .given) (digitAgain s (cellOf row column) (changeBy before digit p e) .digits)
-      (marksAgain s (moveBy row column digit p e w) mask cells .notes)
+      (marksAgain s (moveBy row column digit p e w) mask .notes)
       (digitAgain s (cellOf row column) (changeBy before digit p e) .solved)
       ≡ performAgain s (moveBy row column digit p e w) mask
   unfolding pick marksAgain digitAgain performAgain perform withNotes putDigit
-  again-by h true e w = ap (λ (notes : List ℕ). parts (s .given) (putDigit s (cellOf row column) digit .digits) notes (putDigit s (cellOf row column) digit .solved)) h
-  again-by h false true w = refl
-  again-by h false false true = refl
-  again-by h false false false = refl
+  again-by true e w = refl
+  again-by false true w = refl
+  again-by false false true = refl
+  again-by false false false = refl
 
-  left-by : (p e w : Bool) → (p ≡ true → lackInTurn (s .notes) digit mask cells ≡ everyMasked (λ peer. not (contains (noteAt s peer) digit)) mask (peersOf (cellOf row column)))
+  left-by : (p e w : Bool) → (p ≡ true → lackInTurn (s .notes) digit mask (peersOf (cellOf row column)) ≡ everyMasked (λ peer. not (contains (noteAt s peer) digit)) mask (peersOf (cellOf row column)))
       → both (digitLeft (s .digits) (cellOf row column) (changeBy before digit p e))
-      (marksLeft (s .notes) (moveBy row column digit p e w) mask cells)
+      (marksLeft (s .notes) (moveBy row column digit p e w) mask)
       ≡ standsAsLeft s (moveBy row column digit p e w) mask
   unfolding pick digitLeft marksLeft standsAsLeft digitAt noteAt both
   left-by true e w h = ap (both (eqb (digitAt s (cellOf row column)) digit)) (h refl)
@@ -154,9 +125,9 @@ module _ (s : State) (row column digit before mask : ℕ) (cells : List ℕ) whe
   left-by false false true h = refl
   left-by false false false h = refl
 
-  found-by : (p e w : Bool) → (p ≡ true → noneMissingInTurn (s .notes) digit mask cells ≡ everyMasked (λ peer. contains (noteAt s peer) digit) mask (peersOf (cellOf row column)))
+  found-by : (p e w : Bool) → (p ≡ true → noneMissingInTurn (s .notes) digit mask (peersOf (cellOf row column)) ≡ everyMasked (λ peer. contains (noteAt s peer) digit) mask (peersOf (cellOf row column)))
       → both (digitFound (s .digits) (cellOf row column) (changeBy before digit p e))
-      (marksFound (s .notes) (moveBy row column digit p e w) mask cells)
+      (marksFound (s .notes) (moveBy row column digit p e w) mask)
       ≡ standsAsFound s (moveBy row column digit p e w) before mask
   unfolding pick digitFound marksFound standsAsFound digitAt noteAt both
   found-by true e w h = ap (both (eqb (digitAt s (cellOf row column)) before)) (h refl)
@@ -167,36 +138,36 @@ module _ (s : State) (row column digit before mask : ℕ) (cells : List ℕ) whe
 module _ (s : State) (slot : Slot) where
   pub back-parts : parts (s .given)
       (digitBack s (cellOf (slot .row) (slot .column)) (digitChange slot) .digits)
-      (marksBack s (moveOf slot) (slot .struck) (struckCells slot) .notes)
+      (marksBack s (moveOf slot) (slot .struck) .notes)
       (digitBack s (cellOf (slot .row) (slot .column)) (digitChange slot) .solved)
       ≡ takeBack s (moveOf slot) (slot .before) (slot .struck)
   unfolding digitChange moveOf
   back-parts =
-      back-by s (slot .row) (slot .column) (slot .digit) (slot .before) (slot .struck) (struckCells slot) (write-struck slot (s .notes) (slot .digit))
+      back-by s (slot .row) (slot .column) (slot .digit) (slot .before) (slot .struck)
       (eqb (slot .kind) placeKind) (eqb (slot .kind) eraseKind) (eqb (slot .kind) writeKind)
 
   pub again-parts : parts (s .given)
       (digitAgain s (cellOf (slot .row) (slot .column)) (digitChange slot) .digits)
-      (marksAgain s (moveOf slot) (slot .struck) (struckCells slot) .notes)
+      (marksAgain s (moveOf slot) (slot .struck) .notes)
       (digitAgain s (cellOf (slot .row) (slot .column)) (digitChange slot) .solved)
       ≡ performAgain s (moveOf slot) (slot .struck)
   unfolding digitChange moveOf
   again-parts =
-      again-by s (slot .row) (slot .column) (slot .digit) (slot .before) (slot .struck) (struckCells slot) (strike-struck slot (s .notes) (slot .digit))
+      again-by s (slot .row) (slot .column) (slot .digit) (slot .before) (slot .struck)
       (eqb (slot .kind) placeKind) (eqb (slot .kind) eraseKind) (eqb (slot .kind) writeKind)
 
   -- what stands, asked of the digits and of the notes, where the slot is sound
   module _ (h : isSound (s .given) slot ≡ true) where
-    pub left-parts : both (digitLeft (s .digits) (cellOf (slot .row) (slot .column)) (digitChange slot)) (marksLeft (s .notes) (moveOf slot) (slot .struck) (struckCells slot))
+    pub left-parts : both (digitLeft (s .digits) (cellOf (slot .row) (slot .column)) (digitChange slot)) (marksLeft (s .notes) (moveOf slot) (slot .struck))
         ≡ standsAsLeft s (moveOf slot) (slot .struck)
     unfolding digitChange moveOf noteAt
     left-parts =
-        left-by s (slot .row) (slot .column) (slot .digit) (slot .before) (slot .struck) (struckCells slot)
-        (eqb (slot .kind) placeKind) (eqb (slot .kind) eraseKind) (eqb (slot .kind) writeKind) (λ k. lack-struck slot (s .given) h (s .notes) (slot .digit))
+        left-by s (slot .row) (slot .column) (slot .digit) (slot .before) (slot .struck)
+        (eqb (slot .kind) placeKind) (eqb (slot .kind) eraseKind) (eqb (slot .kind) writeKind) (λ k. lack-peers (s .notes) (slot .digit) (slot .struck) _ (sound-cell slot (s .given) h))
 
-    pub found-parts : both (digitFound (s .digits) (cellOf (slot .row) (slot .column)) (digitChange slot)) (marksFound (s .notes) (moveOf slot) (slot .struck) (struckCells slot))
+    pub found-parts : both (digitFound (s .digits) (cellOf (slot .row) (slot .column)) (digitChange slot)) (marksFound (s .notes) (moveOf slot) (slot .struck))
         ≡ standsAsFound s (moveOf slot) (slot .before) (slot .struck)
     unfolding digitChange moveOf noteAt
     found-parts =
-        found-by s (slot .row) (slot .column) (slot .digit) (slot .before) (slot .struck) (struckCells slot)
-        (eqb (slot .kind) placeKind) (eqb (slot .kind) eraseKind) (eqb (slot .kind) writeKind) (λ k. have-struck slot (s .given) h (s .notes) (slot .digit) (sound-digit slot (s .given) h k))
+        found-by s (slot .row) (slot .column) (slot .digit) (slot .before) (slot .struck)
+        (eqb (slot .kind) placeKind) (eqb (slot .kind) eraseKind) (eqb (slot .kind) writeKind) (λ k. have-peers (s .notes) (slot .digit) (slot .struck) _ (sound-cell slot (s .given) h) (sound-digit slot (s .given) h k))

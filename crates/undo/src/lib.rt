@@ -1,6 +1,6 @@
 // Undo and redo: a recorded move taken back, and performed again, as its slot says. No slot is written.
-// A call asks what its slot must be, digit and marks, when it
-// changes them, and puts the board back where it is refused.
+// A call asks whether its slot is sound before it changes anything, and
+// digit and marks when it changes them; a refused one puts the board back.
 pub mod asking;
 pub mod digits;
 pub mod marks;
@@ -10,6 +10,7 @@ use asking::slot_to_redo;
 use asking::undo_number;
 use board::Answer;
 use board::Board;
+use digits::Changed;
 use digits::put_again;
 use digits::put_back;
 use journal::Counts;
@@ -27,9 +28,10 @@ ghost use mathlib.Core.Path.{_≡_};
 ghost use mathlib.Core.List.{List};
 ghost use Rattle.journal.specs.State.{performAgain};
 ghost use Rattle.journal.specs.Slots.{moveOf};
-ghost use Rattle.board.specs.Board.{whole};
+ghost use Rattle.board.specs.Board.{whole, stateOf};
 ghost use Rattle.play.specs.Parts.{parts};
-ghost use Rattle.play.specs.Play.{undoOf, redoOf};
+ghost use Rattle.play.specs.Play.{canTakeBack, undoOf, redoOf};
+ghost use Rattle.undo.specs.Halves.{backIf};
 
 // Takes back the latest standing move. Refused by 1 2 4 12 14.
 pub fn undo(board: Board, journal: &[u8]) -> Answer
@@ -45,9 +47,13 @@ pub fn undo(board: Board, journal: &[u8]) -> Answer
         return answer;
     }
     let slot = slot_at(journal, board.standing);
+    if !is_sound(&answer.board.given, slot) {
+        answer.refusal = refusal(14, board.standing, 0);
+        return answer;
+    }
     let digit = put_back(&mut answer.board.digits, board.solved, slot);
     let marks_stood = give_back(&mut answer.board.notes, slot);
-    if !(is_sound(&answer.board.given, slot) & digit.stood & marks_stood) {
+    if !(digit.stood & marks_stood) {
         answer.board = board; // without the marks given back
         answer.refusal = refusal(14, board.standing, 0);
         return answer;
@@ -77,9 +83,13 @@ pub fn redo(board: Board, journal: &[u8]) -> Answer
     }
     let next = slot_to_redo(board.made, board.standing);
     let slot = slot_at(journal, next);
+    if !is_sound(&answer.board.given, slot) {
+        answer.refusal = refusal(14, next, 0);
+        return answer;
+    }
     let digit = put_again(&mut answer.board.digits, board.solved, slot);
     let marks_stood = take_again(&mut answer.board.notes, slot);
-    if !(is_sound(&answer.board.given, slot) & digit.stood & marks_stood) {
+    if !(digit.stood & marks_stood) {
         answer.board = board; // without the marks taken again
         answer.refusal = refusal(14, next, 0);
         return answer;
@@ -92,6 +102,37 @@ pub fn redo(board: Board, journal: &[u8]) -> Answer
     answer.board.made = counts.made;
     answer.board.standing = counts.standing;
     answer
+}
+
+// A recorded move taken back on the digits and notes of a board, which are lent, where its slot is sound and
+// what it changed stands as the move left it. Answered is whether that is so, and the status; else all stays.
+fn back_in(
+    digits: &mut [u8; 81],
+    given: &[u8; 81],
+    notes: &mut [u16; 81],
+    board: Board,
+    slot: Slot,
+) -> Changed
+    requires { ⌜ (now digits ≡ board .digits) × (now given ≡ board .given) × (now notes ≡ board .notes) ⌝ }
+    ensures { λ r. ⌜ (r .stood ≡ canTakeBack (stateOf board) slot) × (parts (board .given) (now (digits .exit)) (now (notes .exit)) (r .solved) ≡ backIf (r .stood) (stateOf board) slot) ⌝ }
+{
+    let unchanged = Changed {
+        stood: false,
+        solved: board.solved,
+    };
+    if !is_sound(given, slot) {
+        return unchanged;
+    }
+    let digit = put_back(digits, board.solved, slot);
+    let marks_stood = give_back(notes, slot);
+    if !(digit.stood & marks_stood) {
+        let digits_before = board.digits;
+        let notes_before = board.notes;
+        *digits = digits_before;
+        *notes = notes_before;
+        return unchanged;
+    }
+    digit
 }
 
 // Undo on a board whose parts are lent, in place; a refused one leaves them. Reopening takes back so, one
@@ -124,20 +165,15 @@ pub fn undo_in<'a>(
         return;
     }
     let slot = slot_at(*journal, board.standing);
-    let digit = put_back(digits, board.solved, slot);
-    let marks_stood = give_back(notes, slot);
-    if !(is_sound(given, slot) & digit.stood & marks_stood) {
-        let digits_before = board.digits;
-        let notes_before = board.notes;
-        *digits = digits_before;
-        *notes = notes_before;
+    let changed = back_in(digits, given, notes, board, slot);
+    if !changed.stood {
         return;
     }
     let counts = after_take_back(Counts {
         made: made,
         standing: board.standing,
     });
-    *solved = digit.solved;
+    *solved = changed.solved;
     *standing = counts.standing;
 }
 

@@ -2,11 +2,12 @@
 -- is the definition where the tests before it have gone as they did.
 -- Assumes nothing.
 use Prim.Native.Nat.{_≤_, _<_}
-use mathlib.Core.Path.{_≡_, sym, _∙_}
+use mathlib.Core.Path.{_≡_, refl, sym, _∙_}
 use mathlib.Core.Bool.{true, false}
 use borrow.Author.Needs.{needs}
 use borrow.Author.Tests.{le-leb, lt-leb, not-true, not-false}
 use Rattle.sudoku.specs.Tests.{both, every}
+use Rattle.sudoku.proofs.Walks.{both-false-right}
 use Rattle.journal.specs.Limits.{maxMoves, maxChecks}
 use Rattle.board.specs.declared.Board.{Board}
 use Rattle.board.specs.Board.{isBoard, digitValue, noteValue, solutionValue}
@@ -34,18 +35,13 @@ module _ (b : Board) where
         no-status h = rw (le-leb _ _ m, le-leb _ _ s, le-leb _ _ k, lt-leb _ _ h)
 
       module _ (k : b .checks ≤ maxChecks) (o : b .solved ≤ 1) where
-        no-digits : every (digitValue (b .digits) (b .given)) 81 1 ≡ false → isBoard b ≡ false
+        no-notes : every (noteValue (b .notes)) 81 1 ≡ false → isBoard b ≡ false
         unfolding isBoard both
-        no-digits h = rw (le-leb _ _ m, le-leb _ _ s, le-leb _ _ k, le-leb _ _ o, h)
+        no-notes h = rw (le-leb _ _ m, le-leb _ _ s, le-leb _ _ k, le-leb _ _ o, h) (both-false-right (every (digitValue (b .digits) (b .given)) 81 1) false refl)
 
-        module _ (d : every (digitValue (b .digits) (b .given)) 81 1 ≡ true) where
-          no-notes : every (noteValue (b .notes)) 81 1 ≡ false → isBoard b ≡ false
-          unfolding isBoard both
-          no-notes h = rw (le-leb _ _ m, le-leb _ _ s, le-leb _ _ k, le-leb _ _ o, d, h)
-
-          by-solution : every (noteValue (b .notes)) 81 1 ≡ true → isBoard b ≡ every (solutionValue (b .solution)) 81 1
-          unfolding isBoard both
-          by-solution h = rw (le-leb _ _ m, le-leb _ _ s, le-leb _ _ k, le-leb _ _ o, d, h)
+        by-cells : every (noteValue (b .notes)) 81 1 ≡ true → isBoard b ≡ both (every (digitValue (b .digits) (b .given)) 81 1) (every (solutionValue (b .solution)) 81 1)
+        unfolding isBoard both
+        by-cells h = rw (le-leb _ _ m, le-leb _ _ s, le-leb _ _ k, le-leb _ _ o, h)
 
 returns : tie.Need-returns
 returns c =
@@ -67,30 +63,22 @@ returns-4 c =
     let a = c .before .before .before .before .args in
     sym (no-status (a .t1) (c .before .before .before .if1 .left) (c .before .before .if2 .left) (c .before .if3 .left) (c .if4 .taken))
 
-digit-values-requires : tie.Need-digit-values-requires
-digit-values-requires c κs = search needs
+note-values-requires : tie.Need-note-values-requires
+note-values-requires c κs = search needs
 
 returns-5 : tie.Need-returns-5
 returns-5 c =
-    let a = c .before .before .before .before .before .before .before .before .before .args in
-    sym (no-digits (a .t1) (c .before .before .before .before .before .before .before .before .if1 .left) (c .before .before .before .before .before .before .before .if2 .left) (c .before .before .before .before .before .before .if3 .left) (c .before .before .before .before .before .if4 .left) (sym (c .before .digit-values .ensures) ∙ not-true _ (c .if5 .taken)))
+    let a = c .before .before .before .before .before .before .before .before .args in
+    sym (no-notes (a .t1) (c .before .before .before .before .before .before .before .if1 .left) (c .before .before .before .before .before .before .if2 .left) (c .before .before .before .before .before .if3 .left) (c .before .before .before .before .if4 .left) (sym (c .before .note-values .ensures) ∙ not-true _ (c .if5 .taken)))
 
-note-values-requires : tie.Need-note-values-requires
-note-values-requires c κs = search needs
+cell-values-requires : tie.Need-cell-values-requires
+cell-values-requires c κs = search needs
 
 returns-6 : tie.Need-returns-6
 returns-6 c =
     let a = c .before .before .before .before .before .before .before .before .before .before .before .before .before .args in
-    sym (no-notes (a .t1) (c .before .before .before .before .before .before .before .before .before .before .before .before .if1 .left) (c .before .before .before .before .before .before .before .before .before .before .before .if2 .left) (c .before .before .before .before .before .before .before .before .before .before .if3 .left) (c .before .before .before .before .before .before .before .before .before .if4 .left) (sym (c .before .before .before .before .before .digit-values .ensures) ∙ not-false _ (c .before .before .before .before .if5 .left)) (sym (c .before .note-values .ensures) ∙ not-true _ (c .if6 .taken)))
-
-solution-values-requires : tie.Need-solution-values-requires
-solution-values-requires c κs = search needs
-
-returns-7 : tie.Need-returns-7
-returns-7 c =
-    let a = c .before .before .before .before .before .before .before .before .before .before .before .before .before .before .before .before .args in
-    c .solution-values .ensures
-    ∙ sym (by-solution (a .t1) (c .before .before .before .before .before .before .before .before .before .before .before .before .before .before .before .if1 .left) (c .before .before .before .before .before .before .before .before .before .before .before .before .before .before .if2 .left) (c .before .before .before .before .before .before .before .before .before .before .before .before .before .if3 .left) (c .before .before .before .before .before .before .before .before .before .before .before .before .if4 .left) (sym (c .before .before .before .before .before .before .before .before .digit-values .ensures) ∙ not-false _ (c .before .before .before .before .before .before .before .if5 .left)) (sym (c .before .before .before .before .note-values .ensures) ∙ not-false _ (c .before .before .before .if6 .left)))
+    c .cell-values .ensures
+    ∙ sym (by-cells (a .t1) (c .before .before .before .before .before .before .before .before .before .before .before .before .if1 .left) (c .before .before .before .before .before .before .before .before .before .before .before .if2 .left) (c .before .before .before .before .before .before .before .before .before .before .if3 .left) (c .before .before .before .before .before .before .before .before .before .if4 .left) (sym (c .before .before .before .before .before .before .note-values .ensures) ∙ not-false _ (c .before .before .before .before .before .if5 .left)))
 
 pub is-board-spec : {M : Type 1} → statement M
 is-board-spec =
@@ -100,9 +88,7 @@ is-board-spec =
     returns-2
     returns-3
     returns-4
-    digit-values-requires
-    returns-5
     note-values-requires
-    returns-6
-    solution-values-requires
-    returns-7)
+    returns-5
+    cell-values-requires
+    returns-6)
