@@ -2,7 +2,7 @@
 -- Assumes nothing.
 use Prim.Native.Nat.{ℕ, zero, suc, _+_, _-_, _*_, _≤_, _<_}
 use mathlib.Core.Path.{_≡_, refl, sym, ap, _∙_}
-use mathlib.Core.Bool.{false}
+use mathlib.Core.Bool.{Bool, false}
 use mathlib.Core.List.{List, _++_}
 use native.Mathlib.Nat.{sub-eq-zero-of-le}
 use native.Mathlib.Numerals.{add-one}
@@ -10,6 +10,7 @@ use native.Mathlib.Omega.{arith}
 use lib.ListN.{length}
 use Rattle.sudoku.specs.Tests.{listed}
 use Rattle.sudoku.proofs.Walks.{left-one}
+use Rattle.puzzle.specs.declared.Refusal.{Refusal}
 use Rattle.journal.specs.declared.Move.{Move}
 use Rattle.journal.specs.Bytes.{over}
 use Rattle.journal.proofs.Memory.{over-nil, over-join}
@@ -19,43 +20,38 @@ use Rattle.board.specs.declared.Checked.{Checked}
 use Rattle.play.specs.Play.{playOf, undoOf, redoOf}
 use Rattle.play.specs.Check.{checkOf}
 use Rattle.calls.specs.declared.Call.the-variants.{Make, Undo, Redo, Check}
-use Rattle.calls.specs.declared.Decoded.{Decoded}
 use Rattle.calls.specs.Session.{Session, Said, Called, called, callOf}
-use Rattle.calls.specs.Encoded.{callBytes, session, said, judged, leaves, decodeAt, runOne, leftBy, saidTo, answerBytes, answersBytes, Ran, ran, runAt, runFrom}
+use Rattle.calls.specs.Encoded.{callBytes, session, said, decodeAt, runOne, leftBy, saidTo, answerBytes, answersBytes, Ran, ran, answeredAt, runAt, runFrom}
 
--- ---- what a call leaves
+-- ---- what a call answers and leaves
 
-module _ (b : Board) (journal checks : List ℕ) (a : Answer) (r : Checked) (unjudged : r ≡ judged (a .refusal) false (a .board)) where
-  pub makes : (m : Move) (after : List ℕ) → (a ≡ playOf b journal m .answer) × (after ≡ playOf b journal m .journal)
-      → leaves r after checks ≡ callOf (session b journal checks) (Make m)
-  unfolding callOf called
-  makes m after p =
-      ap (λ (x : Checked). leaves x after checks) unjudged ∙ (λ i. called (p .0 i .refusal) false (p .0 i .board) (p .1 i) checks)
+module _ (b : Board) (journal checks : List ℕ) where
+  pub makes : (m : Move) (a : Answer) (after : List ℕ) → (a ≡ playOf b journal m .answer) × (after ≡ playOf b journal m .journal)
+      → called (a .refusal) false (a .board) after checks ≡ callOf (session b journal checks) (Make m)
+  unfolding callOf
+  makes m a after p = λ i. called (p .0 i .refusal) false (p .0 i .board) (p .1 i) checks
 
-  pub undoes : a ≡ undoOf b journal → leaves r journal checks ≡ callOf (session b journal checks) Undo
-  unfolding callOf called
-  undoes p = ap (λ (x : Checked). leaves x journal checks) unjudged ∙ (λ i. called (p i .refusal) false (p i .board) journal checks)
+  pub undoes : (a : Answer) → a ≡ undoOf b journal → called (a .refusal) false (a .board) journal checks ≡ callOf (session b journal checks) Undo
+  unfolding callOf
+  undoes a p = λ i. called (p i .refusal) false (p i .board) journal checks
 
-  pub redoes : a ≡ redoOf b journal → leaves r journal checks ≡ callOf (session b journal checks) Redo
-  unfolding callOf called
-  redoes p = ap (λ (x : Checked). leaves x journal checks) unjudged ∙ (λ i. called (p i .refusal) false (p i .board) journal checks)
+  pub redoes : (a : Answer) → a ≡ redoOf b journal → called (a .refusal) false (a .board) journal checks ≡ callOf (session b journal checks) Redo
+  unfolding callOf
+  redoes a p = λ i. called (p i .refusal) false (p i .board) journal checks
 
-pub checks-it : (b : Board) (journal checks : List ℕ) (row column : ℕ) (r : Checked) (after : List ℕ)
-    → (r ≡ checkOf b checks row column .answer) × (after ≡ checkOf b checks row column .checks)
-    → leaves r journal after ≡ callOf (session b journal checks) (Check row column)
-unfolding callOf called
-checks-it b journal checks row column r after p = λ i. leaves (p .0 i) journal (p .1 i)
+  pub checks-it : (row column : ℕ) (r : Checked) (after : List ℕ) → (r ≡ checkOf b checks row column .answer) × (after ≡ checkOf b checks row column .checks)
+      → called (r .refusal) (r .right) (r .board) journal after ≡ callOf (session b journal checks) (Check row column)
+  unfolding callOf
+  checks-it row column r after p = λ i. called (p .0 i .refusal) (p .0 i .right) (p .0 i .board) journal (p .1 i)
 
 -- ---- one group more, and none left
 
--- a group run, and answered in its place
-pub runs-one : (calls answers : List ℕ) (s : Session) (i : ℕ) (d : Decoded) (r : Checked) (journal checks after : List ℕ)
-    → d ≡ decodeAt calls i → leaves r journal checks ≡ runOne s d → after ≡ over answers (callBytes * i) (answerBytes (said (r .refusal) (r .right)))
-    → ran (session (r .board) journal checks) after ≡ runAt calls s answers i
-unfolding runAt called
-runs-one calls answers s i d r journal checks after p q w =
-    ap (λ (l : List ℕ). ran (session (r .board) journal checks) l) w
-    ∙ ap (λ (c : Called). ran (c .left) (over answers (callBytes * i) (answerBytes (c .said)))) (q ∙ ap (λ (x : Decoded). runOne s x) p)
+-- an answer written in its place
+pub answers-it : (answers : List ℕ) (i : ℕ) (r : Refusal) (right : Bool) (b left : Board) (journal checks after : List ℕ) (c : Called)
+    → (left ≡ b) × (after ≡ over answers (callBytes * i) (answerBytes (said r right))) → called r right b journal checks ≡ c
+    → ran (session left journal checks) after ≡ answeredAt answers i c
+unfolding answeredAt called
+answers-it answers i r right b left journal checks after c p q = (λ j. ran (session (p .0 j) journal checks) (p .1 j)) ∙ ap (answeredAt answers i) q
 
 -- four bytes for each group
 pub length-answers : (calls : List ℕ) (s : Session) (n i : ℕ) → length (answersBytes (saidTo s (listed (decodeAt calls) n i))) ≡ callBytes * n
@@ -74,7 +70,7 @@ answered answers i a more h =
 module _ (calls : List ℕ) (s : Session) (answers : List ℕ) where
   run-suc : (n i : ℕ) → callBytes * i + callBytes * suc n ≤ length answers
       → runFrom calls s answers (suc n) i ≡ runFrom calls (runAt calls s answers i .left) (runAt calls s answers i .answers) n (suc i)
-  unfolding runFrom runAt leftBy saidTo listed answersBytes
+  unfolding runFrom runAt answeredAt leftBy saidTo listed answersBytes
   run-suc n i h =
       λ j.
       ran (leftBy (runOne s (decodeAt calls i) .left) (listed (decodeAt calls) n (suc i)))

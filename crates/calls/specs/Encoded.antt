@@ -17,7 +17,6 @@ use Rattle.puzzle.specs.Refusals.{refusal}
 use Rattle.journal.specs.declared.Move.the-variants.{Place, Erase, WriteMark, StrikeMark}
 use Rattle.journal.specs.Bytes.{over, low, second}
 use Rattle.board.specs.declared.Board.{Board}
-use Rattle.board.specs.declared.Checked.{Checked}
 use Rattle.calls.specs.declared.Call.{Call}
 use Rattle.calls.specs.declared.Call.the-variants.{Make, Undo, Redo, Check}
 use Rattle.calls.specs.declared.Decoded.{Decoded}
@@ -134,11 +133,13 @@ runFrom calls s answers n i =
 unfoldable pub runOf : Session → List ℕ → List ℕ → Ran
 runOf s calls answers = runFrom calls s answers (groups (length calls) (length answers)) 0
 
+-- a call's answer behind i others, and what it leaves
+unfoldable pub answeredAt : List ℕ → ℕ → Called → Ran
+answeredAt answers i c = ran (c .left) (over answers (callBytes * i) (answerBytes (c .said)))
+
 -- group i run, and answered in its place
 unfoldable pub runAt : List ℕ → Session → List ℕ → ℕ → Ran
-runAt calls s answers i =
-    let c = runOne s (decodeAt calls i) in
-    ran (c .left) (over answers (callBytes * i) (answerBytes (c .said)))
+runAt calls s answers i = answeredAt answers i (runOne s (decodeAt calls i))
 
 -- values of these records, by their fields
 abbrev pub session : Board → List ℕ → List ℕ → Session
@@ -146,10 +147,3 @@ session board journal checks = record { board = board; journal = journal; checks
 
 abbrev pub said : Refusal → Bool → Said
 said r right = record { refusal = r; right = right }
-
-abbrev pub judged : Refusal → Bool → Board → Checked
-judged r right board = record { refusal = r; right = right; board = board }
-
--- what a call's answer and the lent memory at its end say together
-abbrev pub leaves : Checked → List ℕ → List ℕ → Called
-leaves c journal checks = called (c .refusal) (c .right) (c .board) journal checks

@@ -13,6 +13,9 @@ ghost use mathlib.Core.Path.{_≡_};
 ghost use Prim.Native.Nat.{_+_, _≤_, _<_};
 ghost use lib.ListN.{length, drop, getD};
 ghost use Rattle.journal.specs.Bytes.{two};
+ghost use Rattle.record.specs.declared.Item.the-variants.{Given};
+ghost use Rattle.record.specs.declared.Read.the-variants.{Whole};
+ghost use Rattle.record.specs.Items.{checkItem};
 ghost use Rattle.record.specs.Counting.{shapeOf, taken, readOf, moveAt, askedFrom, itemOf};
 
 // What the kind byte of an item decides.
@@ -94,51 +97,53 @@ pub fn asked_at(bytes: &[u8], at: usize) -> Asked
     }
 }
 
+// The given whose kind byte stands at an offset.
+fn given_at(bytes: &[u8], at: usize) -> Item
+    requires { ⌜ at < length (now bytes) ⌝ }
+    ensures { λ r. ⌜ r ≡ Given (getD (now (bytes .entry)) (at + 1) 0) (getD (now (bytes .entry)) (at + 2) 0) (getD (now (bytes .entry)) (at + 3) 0) ⌝ }
+{
+    let row = byte_at(bytes, at + 1);
+    let column = byte_at(bytes, at + 2);
+    let digit = byte_at(bytes, at + 3);
+    Item::Given {
+        row: row,
+        column: column,
+        digit: digit,
+    }
+}
+
+// A check as an item.
+fn check_item(c: Asked) -> Item
+    ensures { λ r. ⌜ r ≡ checkItem c ⌝ }
+{
+    Item::Check {
+        standing: c.standing,
+        row: c.row,
+        column: c.column,
+        digit: c.digit,
+    }
+}
+
+// A whole item; the next one starts at `next`.
+fn whole(item: Item, next: usize) -> Read
+    ensures { λ r. ⌜ r ≡ Whole item next ⌝ }
+{
+    Read::Whole {
+        item: item,
+        next: next,
+    }
+}
+
 // The item of a group whose kind byte stands at an offset; the next one starts at `next`.
 fn item_at(bytes: &[u8], at: usize, group: Group, next: usize) -> Read
     requires { ⌜ at < length (now bytes) ⌝ }
     ensures { λ r. ⌜ r ≡ itemOf (now (bytes .entry)) at next group ⌝ }
 {
     match group {
-        Group::Givens => {
-            let row = byte_at(bytes, at + 1);
-            let column = byte_at(bytes, at + 2);
-            let digit = byte_at(bytes, at + 3);
-            Read::Whole {
-                item: Item::Given {
-                    row: row,
-                    column: column,
-                    digit: digit,
-                },
-                next: next,
-            }
-        }
-        Group::Moves => {
-            let m = move_at(bytes, at);
-            Read::Whole {
-                item: Item::Played(m),
-                next: next,
-            }
-        }
-        Group::Count => {
-            let n = two_at(bytes, at + 1);
-            Read::Whole {
-                item: Item::Undone(n),
-                next: next,
-            }
-        }
-        Group::Checks => {
-            let c = asked_at(bytes, at);
-            Read::Whole {
-                item: Item::Check {
-                    standing: c.standing,
-                    row: c.row,
-                    column: c.column,
-                    digit: c.digit,
-                },
-                next: next,
-            }
-        }
+        Group::Givens => whole(given_at(bytes, at), next),
+        Group::Moves => whole(Item::Played(move_at(bytes, at)), next),
+        Group::Count => whole(Item::Undone(two_at(bytes, at + 1)), next),
+        Group::Checks => whole(check_item(asked_at(bytes, at)), next),
         Group::Malformed => Read::Nothing,
     }
 }
