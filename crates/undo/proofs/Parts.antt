@@ -7,11 +7,10 @@ use mathlib.Core.Path.{_≡_, refl, sym, ap, _∙_}
 use mathlib.Core.Bool.{Bool, true, false, not}
 use mathlib.Core.List.{List, [], _∷_}
 use lib.Dec.{eqb}
-use lib.ListN.{replicate}
 use borrow.Author.Tests.{eqb-true, lt-leb}
 use Rattle.sudoku.specs.Tests.{pick, both, either}
-use Rattle.sudoku.specs.Grid.{inRange, isCell, cellOf, at, peersOf}
-use Rattle.sudoku.proofs.Walks.{by-test, pick-false, both-left, both-second}
+use Rattle.sudoku.specs.Grid.{inRange, isCell, cellOf, peersOf}
+use Rattle.sudoku.proofs.Walks.{pick-false, both-left, both-second}
 use Rattle.sudoku.proofs.Grid.{cell-of-is-cell}
 use Rattle.note.specs.Note.{contains}
 use Rattle.journal.specs.declared.DigitChange.{DigitChange}

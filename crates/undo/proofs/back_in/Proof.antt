@@ -6,7 +6,6 @@ use mathlib.Core.Bool.{Bool, true, false, _&&_}
 use mathlib.Core.List.{List}
 use borrow.Author.Tests.{not-true, not-false}
 use Rattle.sudoku.specs.Tests.{pick}
-use Rattle.sudoku.proofs.Walks.{pick-true}
 use Rattle.journal.specs.Slots.{isSound}
 use Rattle.board.specs.Board.{stateOf}
 use Rattle.play.specs.Play.{canTakeBack}
