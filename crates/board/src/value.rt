@@ -4,6 +4,7 @@ use journal::MAX_CHECKS;
 use journal::MAX_MOVES;
 use sudoku::CELLS;
 use sudoku::SIDE;
+use sudoku::in_range;
 ghost use mathlib.Core.Path.{_≡_};
 ghost use mathlib.Core.List.{[]};
 ghost use Prim.Native.Nat.{_≤_};
@@ -28,7 +29,7 @@ fn cell_step(ok: bool, digit: u8, given: u8, right: u8) -> bool
     ensures { λ r. ⌜ r ≡ both ok (both (mayStand digit given) (inRange right)) ⌝ }
 {
     let flag = greatest_flag(digit);
-    ok & (digit <= SIDE) & (given <= flag) & (right >= 1) & (right <= SIDE)
+    ok & (digit <= SIDE) & (given <= flag) & in_range(right)
 }
 
 // The digits, the flags and the solution are asked in one loop: in two it takes a nanosecond more in every call.

@@ -2,6 +2,7 @@
 
 use crate::puzzle::{Puzzle, column, position, row};
 use original::board::Board as Theirs;
+use pawdoku::call;
 use pawdoku::sys::{self, Answer, Board, Refusal};
 
 /// A board of the library with its lent memory. The board is that of the latest answer: an answer's board, refused or
@@ -31,6 +32,13 @@ impl Ours {
     pub fn open(&mut self, puzzle: &Puzzle) {
         self.answer = sys::open(&puzzle.bytes, &puzzle.solution, &mut self.journal, &mut self.checks);
         assert_eq!(self.answer.refusal.number, 0);
+    }
+
+    /// A list of encoded calls, run at once.
+    #[inline]
+    pub fn run(&mut self, calls: &[u8], answers: &mut [u8]) {
+        self.answer = sys::play(&self.answer.board, &mut self.journal, &mut self.checks, calls, answers);
+        assert!(answers.chunks(4).all(|answer| answer[0] == 0));
     }
 
     /// A call that is refused at once: the journal has no bytes.
@@ -90,6 +98,21 @@ pub enum Call {
     Undo,
     Redo,
     Check(usize),
+}
+
+impl Call {
+    /// The four bytes that encode it in a list.
+    pub const fn encoded(self) -> [u8; 4] {
+        match self {
+            Self::Place(cell, digit) => [call::PLACE, row(cell), column(cell), digit],
+            Self::Erase(cell) => [call::ERASE, row(cell), column(cell), 0],
+            Self::Write(cell, digit) => [call::WRITE_MARK, row(cell), column(cell), digit],
+            Self::Strike(cell, digit) => [call::STRIKE_MARK, row(cell), column(cell), digit],
+            Self::Undo => [call::UNDO, 0, 0, 0],
+            Self::Redo => [call::REDO, 0, 0, 0],
+            Self::Check(cell) => [call::CHECK, row(cell), column(cell), 0],
+        }
+    }
 }
 
 #[inline]

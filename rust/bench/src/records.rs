@@ -103,25 +103,29 @@ fn reopening(puzzle: &Puzzle, name: &str, calls: &[Call], rounds: usize) {
 pub fn table(puzzle: &Puzzle, rounds: usize) {
     let sitting = sitting::calls(puzzle, 300);
     heading("whole things");
-    timed(
-        &format!("a sitting: opening, 300 moves, {} calls in all", sitting.len()),
-        rounds,
-        || {
-            let mut board = Theirs::open(puzzle.givens.iter().copied()).expect("the puzzle opens");
-            for &call in &sitting {
-                make(&mut board, call);
-            }
-            black_box(board);
-        },
-        || {
-            let mut board = Ours::unopened();
-            board.open(puzzle);
-            for &call in &sitting {
-                board.make(call);
-            }
-            black_box(*board.board());
-        },
-    );
+    let theirs = || {
+        let mut board = Theirs::open(puzzle.givens.iter().copied()).expect("the puzzle opens");
+        for &call in &sitting {
+            make(&mut board, call);
+        }
+        black_box(board);
+    };
+    timed(&format!("a sitting: opening, 300 moves, {} calls in all", sitting.len()), rounds, theirs, || {
+        let mut board = Ours::unopened();
+        board.open(puzzle);
+        for &call in &sitting {
+            board.make(call);
+        }
+        black_box(*board.board());
+    });
+    let list: Vec<u8> = sitting.iter().flat_map(|call| call.encoded()).collect();
+    let mut answers = vec![0; list.len()];
+    timed("the same sitting, its calls run as one list", rounds, theirs, || {
+        let mut board = Ours::unopened();
+        board.open(puzzle);
+        board.run(&list, &mut answers);
+        black_box(*board.board());
+    });
     reopening(puzzle, "the sitting", &sitting, rounds);
     let few = rounds.div_ceil(10);
     reopening(puzzle, "1,024 moves and 256 checks, none undone", &largest(puzzle, 0), few);

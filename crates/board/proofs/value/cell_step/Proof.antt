@@ -8,7 +8,6 @@ use native.Mathlib.Omega.{arith}
 use lib.Dec.{eqb, leb}
 use borrow.Author.Tests.{eqb-true, eqb-false, le-leb, lt-leb}
 use Rattle.sudoku.specs.Tests.{pick, both}
-use Rattle.sudoku.specs.Grid.{inRange}
 use Rattle.sudoku.proofs.Walks.{by-test, both-true, both-second, both-false-left, both-false-right}
 use Rattle.puzzle.specs.Givens.{isOn}
 use Rattle.board.specs.Board.{mayStand}
@@ -26,20 +25,22 @@ flag-by true flag =
     lt-leb flag 0 l ∙ sym (both-false-right _ _ (ap not (both-true _ _ (ap not f) refl))))
 flag-by false flag = sym (both-second _ _ (ap not (both-false-right (isOn flag) false refl)))
 
-all-five : (a b c d e : Bool) → ((((a && b) && c) && d) && e) ≡ both a (both (both b c) (both d e))
+all-four : (a b c d : Bool) → (((a && b) && c) && d) ≡ both a (both (both b c) d)
 unfolding both
-all-five true true true true e = refl
-all-five true true true false e = refl
-all-five true true false d e = refl
-all-five true false c d e = refl
-all-five false b c d e = refl
+all-four true true true d = refl
+all-four true true false d = refl
+all-four true false c d = refl
+all-four false b c d = refl
 
 greatest-flag-requires : tie.Need-greatest-flag-requires
 greatest-flag-requires c κs = search needs
 
+in-range-requires : tie.Need-in-range-requires
+in-range-requires c κs = search needs
+
 returns : tie.Need-returns
-unfolding mayStand inRange
-returns c = rw (c .greatest-flag .ensures, flag-by (eqb (c .before .args .digit) 0) (c .before .args .given)) (all-five _ _ _ _ _)
+unfolding mayStand
+returns c = rw (c .before .greatest-flag .ensures, c .in-range .ensures, flag-by (eqb (c .before .before .args .digit) 0) (c .before .before .args .given)) (all-four _ _ _ _)
 
 pub cell-step-spec : {M : Type 1} → statement M
-cell-step-spec = tie.close (tie.spec greatest-flag-requires returns)
+cell-step-spec = tie.close (tie.spec greatest-flag-requires in-range-requires returns)
