@@ -48,7 +48,7 @@ pub fn undo(board: Board, journal: &[u8]) -> Answer
     }
     let slot = slot_at(journal, board.standing);
     if !is_sound(&answer.board.given, slot) {
-        answer.refusal = refusal(14, board.standing, 0);
+        answer.refusal = refusal(14, board.standing, 0); // before anything is changed
         return answer;
     }
     let digit = put_back(&mut answer.board.digits, board.solved, slot);
@@ -84,7 +84,7 @@ pub fn redo(board: Board, journal: &[u8]) -> Answer
     let next = slot_to_redo(board.made, board.standing);
     let slot = slot_at(journal, next);
     if !is_sound(&answer.board.given, slot) {
-        answer.refusal = refusal(14, next, 0);
+        answer.refusal = refusal(14, next, 0); // before anything is changed
         return answer;
     }
     let digit = put_again(&mut answer.board.digits, board.solved, slot);
