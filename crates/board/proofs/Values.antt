@@ -1,14 +1,14 @@
 -- Laws for the walks over the 81 cells of a board value: a loop counts i from 0, and cell i + 1 stands at i.
 -- Assumes nothing.
-use Prim.Native.Nat.{ℕ, zero, suc, _+_, _-_, _≤_, _<_}
+use Prim.Native.Nat.{ℕ, _+_, _-_, _≤_, _<_}
 use mathlib.Core.Path.{_≡_, refl, sym, ap, _∙_}
-use mathlib.Core.Bool.{Bool, true, false}
+use mathlib.Core.Bool.{Bool, true}
 use mathlib.Core.List.{List}
 use native.Mathlib.Omega.{arith}
 use lib.ListN.{getD}
 use Rattle.sudoku.specs.Tests.{both, every}
 use Rattle.sudoku.specs.Grid.{at}
-use Rattle.sudoku.proofs.Walks.{both-assoc, both-second, both-false-right, every-step, every-all}
+use Rattle.sudoku.proofs.Walks.{both-assoc, both-second, every-step, every-all}
 
 back-one : (i : ℕ) → i + 1 - 1 ≡ i
 back-one i = omega arith
@@ -34,15 +34,3 @@ turn f all ok r i h e w =
 -- at the end nothing is left
 pub at-end : (f : ℕ → Bool) (all ok : Bool) (i : ℕ) → 81 ≤ i → all ≡ both ok (every f (82 - (i + 1)) (i + 1)) → ok ≡ all
 at-end f all ok i h w = sym (w ∙ ap (both ok) (every-all f 82 (i + 1) (omega arith)) ∙ both-second ok true refl)
-
--- a walk with two tests of each cell is the walks with each of them
-both-swap : (a b c d : Bool) → both (both a b) (both c d) ≡ both (both a c) (both b d)
-unfolding both
-both-swap true true c d = refl
-both-swap true false c d = sym (both-false-right c false refl)
-both-swap false b c d = refl
-
-pub every-both : (f g : ℕ → Bool) (n i : ℕ) → every (λ k. both (f k) (g k)) n i ≡ both (every f n i) (every g n i)
-unfolding every both
-every-both f g zero i = refl
-every-both f g (suc n) i = ap (both (both (f i) (g i))) (every-both f g n (suc i)) ∙ both-swap (f i) (g i) (every f n (suc i)) (every g n (suc i))

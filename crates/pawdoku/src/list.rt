@@ -51,7 +51,8 @@ fn write_answer(answers: &mut [u8], index: usize, r: Refusal, right: bool)
     answers[start + 3] = verdict(right);
 }
 
-// The answer of a call that is no check, written behind `index` others: its verdict is false. What it leaves is answered.
+// The answer of a call that is no check, written behind `index` others with the
+// verdict false; the board that the call leaves is handed on.
 fn answered(answer: Answer, answers: &mut [u8], index: usize) -> Board
     requires { ⌜ index < length (now answers) / callBytes ⌝ }
     ensures { λ r. ⌜ (r ≡ answer .board) × (now (answers .exit) ≡ over (now (answers .entry)) (callBytes * index) (answerBytes (said (answer .refusal) no))) ⌝ }
@@ -62,7 +63,7 @@ fn answered(answer: Answer, answers: &mut [u8], index: usize) -> Board
     after
 }
 
-// The answer of a check.
+// The answer of a check, with its verdict.
 fn judged(answer: Checked, answers: &mut [u8], index: usize) -> Board
     requires { ⌜ index < length (now answers) / callBytes ⌝ }
     ensures { λ r. ⌜ (r ≡ answer .board) × (now (answers .exit) ≡ over (now (answers .entry)) (callBytes * index) (answerBytes (said (answer .refusal) (answer .right)))) ⌝ }

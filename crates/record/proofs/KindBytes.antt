@@ -24,7 +24,8 @@ use Rattle.record.specs.declared.Item.{Item}
 use Rattle.record.specs.declared.Item.the-variants.{Given, Played, Undone, Check}
 use Rattle.record.specs.declared.Read.the-variants.{Whole, Nothing}
 use Rattle.record.specs.declared.Shape.{Shape}
-use Rattle.record.specs.Items.{encode}
+use Rattle.journal.specs.declared.Asked.{Asked}
+use Rattle.record.specs.Items.{encode, checkItem}
 use Rattle.record.specs.Scan.{broken, takeItem, byKind, body2, body3, body5}
 use Rattle.record.specs.Counting.{shape, shapeOf, taken, readOf, moveAt, askedFrom, itemOf}
 
@@ -162,7 +163,7 @@ module _ (at next : ℕ) where
       → readOf at (takeItem kind l) ≡ itemOf (kind ∷ l) 0 next (shapeOf kind .group)
 
   whole : (kind : ℕ) → IsWhole kind
-  unfolding shapeOf takeItem byKind pick itemOf moveAt moveOf encode readOf
+  unfolding shapeOf takeItem byKind pick itemOf moveAt moveOf askedFrom checkItem encode readOf
   whole =
       kinds IsWhole (λ l e h. whole3 Given (λ a b c. refl) l e h)
       (λ l e h. whole3 (λ row column digit. Played (Place row column digit)) (λ a b c. refl) l e h)
@@ -207,11 +208,7 @@ unfolding itemOf moveAt
 item-shift bytes at next Givens = λ j. Whole (Given (getD-drop at bytes 1 0 j) (getD-drop at bytes 2 0 j) (getD-drop at bytes 3 0 j)) next
 item-shift bytes at next Moves = ap (λ (m : Move). Whole (Played m) next) (move-shift bytes at)
 item-shift bytes at next Count = λ j. Whole (Undone (two (getD-drop at bytes 1 0 j) (getD-drop at bytes 2 0 j))) next
-item-shift bytes at next Checks =
-    λ j.
-    Whole
-    (Check (two (getD-drop at bytes 1 0 j) (getD-drop at bytes 2 0 j)) (getD-drop at bytes 3 0 j) (getD-drop at bytes 4 0 j) (getD-drop at bytes 5 0 j))
-    next
+item-shift bytes at next Checks = ap (λ (c : Asked). Whole (checkItem c) next) (ask-shift bytes at)
 item-shift bytes at next Malformed = refl
 
 -- ---- what stands at an offset

@@ -25,7 +25,7 @@ use Rattle.record.specs.declared.Scanned.{Scanned}
 use Rattle.record.specs.declared.Shape.{Shape}
 use Rattle.record.specs.declared.Step.{Step}
 use Rattle.record.specs.declared.Step.the-variants.{Next, Stopped}
-use Rattle.record.specs.Items.{encode}
+use Rattle.record.specs.Items.{encode, checkItem}
 use Rattle.record.specs.Scan.{Taken, got, broken, takeItem, byKind, malformed, partsOfBytes}
 use Rattle.record.specs.Reopen.{anyLate, unreadable}
 
@@ -78,10 +78,7 @@ unfoldable pub itemOf : List ℕ → ℕ → ℕ → Group → Read
 itemOf bytes at next Givens = Whole (Given (getD bytes (at + 1) 0) (getD bytes (at + 2) 0) (getD bytes (at + 3) 0)) next
 itemOf bytes at next Moves = Whole (Played (moveAt bytes at)) next
 itemOf bytes at next Count = Whole (Undone (two (getD bytes (at + 1) 0) (getD bytes (at + 2) 0))) next
-itemOf bytes at next Checks =
-    Whole
-    (Check (two (getD bytes (at + 1) 0) (getD bytes (at + 2) 0)) (getD bytes (at + 3) 0) (getD bytes (at + 4) 0) (getD bytes (at + 5) 0))
-    next
+itemOf bytes at next Checks = Whole (checkItem (askedFrom bytes at)) next
 itemOf bytes at next Malformed = Nothing
 
 -- ---- one item counted

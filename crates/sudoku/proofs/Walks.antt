@@ -8,7 +8,7 @@
 use Prim.Native.Nat.{ℕ, zero, suc, _+_, _-_, _≤_, _<_}
 use mathlib.Core.Path.{_≡_, refl, sym, ap, subst, _∙_}
 use mathlib.Core.Logic.{⊎-elim}
-use mathlib.Core.Bool.{Bool, true, false, not}
+use mathlib.Core.Bool.{Bool, true, false, not, _&&_}
 use mathlib.Core.List.{List, [], _∷_}
 use native.Mathlib.Nat.{eq-or-lt-of-le, sub-eq-zero-of-le, suc-add, add-suc, zero-add, add-zero, le-of-suc-le-suc, not-suc-le-zero}
 use native.Mathlib.Numerals.{add-one}
@@ -93,6 +93,18 @@ pub both-assoc : (a b c : Bool) → both (both a b) c ≡ both a (both b c)
 unfolding both
 both-assoc true b c = refl
 both-assoc false b c = refl
+
+both-swap : (a b c d : Bool) → both (both a b) (both c d) ≡ both (both a c) (both b d)
+unfolding both
+both-swap true true c d = refl
+both-swap true false c d = sym (both-false-right c false refl)
+both-swap false b c d = refl
+
+-- as the code joins two tests
+pub and-both : (a b : Bool) → (a && b) ≡ both a b
+unfolding both
+and-both true b = refl
+and-both false b = refl
 
 -- ---- either
 
@@ -229,6 +241,12 @@ module _ {A : Type 0} (f : A → ℕ → A) (a : A) (e i : ℕ) where
 -- k is i or lies beyond it
 pub from-here : {A : Type 0} (i k : ℕ) → i ≤ k → (i ≡ k → A) → (suc i ≤ k → A) → A
 from-here i k h here beyond = ⊎-elim here beyond (eq-or-lt-of-le h)
+
+-- a walk with two tests is the walks with each of them
+pub every-both : (f g : ℕ → Bool) (n i : ℕ) → every (λ k. both (f k) (g k)) n i ≡ both (every f n i) (every g n i)
+unfolding every both
+every-both f g zero i = refl
+every-both f g (suc n) i = ap (both (both (f i) (g i))) (every-both f g n (suc i)) ∙ both-swap (f i) (g i) (every f n (suc i)) (every g n (suc i))
 
 pub every-at : (f : ℕ → Bool) (n i k : ℕ) → every f n i ≡ true → i ≤ k → k < i + n → f k ≡ true
 unfolding every

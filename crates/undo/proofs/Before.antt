@@ -2,15 +2,15 @@
 -- number a function of their own found, and then the slot. One law says it of both.
 -- Assumes nothing.
 use Prim.Native.Nat.{ℕ, _+_, _<_}
-use mathlib.Core.Path.{_≡_, refl, sym, ap, _∙_}
+use mathlib.Core.Path.{_≡_, sym, ap, _∙_}
 use mathlib.Core.Bool.{Bool, true, false, not, _&&_}
 use mathlib.Core.List.{List, [], _∷_, _++_}
 use native.Mathlib.Omega.{arith}
 use borrow.Author.Tests.{leb-false}
 use lib.ListN.{length}
-use Rattle.sudoku.specs.Tests.{Test, _⇒_, first, both}
+use Rattle.sudoku.specs.Tests.{Test, _⇒_, first}
 use Rattle.sudoku.specs.Grid.{cellOf}
-use Rattle.sudoku.proofs.Walks.{refused, passed, both-first, both-false-left}
+use Rattle.sudoku.proofs.Walks.{refused, passed, both-first, both-false-left, and-both}
 use Rattle.puzzle.specs.Refusals.{refusal}
 use Rattle.journal.specs.declared.Slot.{Slot}
 use Rattle.journal.specs.State.{State}
@@ -27,11 +27,6 @@ use Rattle.undo.specs.Halves.{digitLeft, digitFound, marksLeft, marksFou
 use Rattle.undo.proofs.Parts.{left-parts, found-parts}
 
 -- ---- the slot: its soundness, and what stands asked of a state's parts where it is sound
-
-and-both : (a b : Bool) → (a && b) ≡ both a b
-unfolding both
-and-both true b = refl
-and-both false b = refl
 
 module _ (s : State) (slot : Slot) where
   pub back-unsound : isSound (s .given) slot ≡ false → canTakeBack s slot ≡ false

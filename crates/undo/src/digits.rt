@@ -13,7 +13,7 @@ ghost use Rattle.journal.specs.Slots.{digitChange};
 ghost use Rattle.play.specs.Parts.{parts};
 ghost use Rattle.undo.specs.Halves.{digitBack, digitAgain, digitLeft, digitFound};
 
-// Whether the digit stood as it must before the change, and the status afterwards.
+// Whether what was to be changed stood as it must, and the status afterwards.
 pub struct Changed {
     pub stood: bool,
     pub solved: u8,

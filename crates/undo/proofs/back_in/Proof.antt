@@ -2,10 +2,11 @@
 -- Assumes nothing.
 use mathlib.Core.Path.{_≡_, refl, sym, ap, _∙_}
 use Prim.Native.Nat.{ℕ}
-use mathlib.Core.Bool.{Bool, true, false, _&&_}
+use mathlib.Core.Bool.{_&&_}
 use mathlib.Core.List.{List}
 use borrow.Author.Tests.{not-true, not-false}
 use Rattle.sudoku.specs.Tests.{pick}
+use Rattle.sudoku.proofs.Walks.{both-left, and-both}
 use Rattle.journal.specs.Slots.{isSound}
 use Rattle.board.specs.Board.{stateOf}
 use Rattle.play.specs.Play.{canTakeBack}
@@ -16,10 +17,6 @@ use Rattle.undo.proofs.Before.{back-unsound, take-back-parts}
 use borrow.Author.Needs.{needs}
 use Rattle.undo.proofs.back_in.Statement.{statement}
 use Rattle.undo.proofs.back_in.Tie as tie
-
-and-left : (a b : Bool) → (a && b) ≡ true → a ≡ true
-and-left true b h = refl
-and-left false b h = h
 
 is-sound-requires : tie.Need-is-sound-requires
 is-sound-requires c κs = search needs
@@ -56,7 +53,7 @@ returns-3 c =
     let fits = not-false _ (c .if2 .left) in
     let digit = c .before .before .before .before .put-back .ensures .1 (a .board .given) (a .board .notes) in
     let notes = c .before .before .give-back .ensures .1 (a .board .given) (a .board .digits) (a .board .solved) in
-    rw (and-left (c .before .before .before .before .put-back .result .stood) (c .before .before .give-back .result) fits) (sym (sym ok ∙ fits), rw (digit .0, digit .1, notes, c .before .before .before .before .before .before .before .before .pre .0, c .before .before .before .before .before .before .before .before .pre .2) (back-parts (stateOf (a .board)) (a .slot)))
+    rw (both-left (c .before .before .before .before .put-back .result .stood) (c .before .before .give-back .result) (sym (and-both (c .before .before .before .before .put-back .result .stood) (c .before .before .give-back .result)) ∙ fits)) (sym (sym ok ∙ fits), rw (digit .0, digit .1, notes, c .before .before .before .before .before .before .before .before .pre .0, c .before .before .before .before .before .before .before .before .pre .2) (back-parts (stateOf (a .board)) (a .slot)))
 
 pub back-in-spec : {M : Type 1} → statement M
 back-in-spec =

@@ -8,7 +8,7 @@ use native.Mathlib.Omega.{arith}
 use lib.Dec.{eqb, leb}
 use borrow.Author.Tests.{eqb-true, eqb-false, le-leb, lt-leb}
 use Rattle.sudoku.specs.Tests.{pick, both}
-use Rattle.sudoku.proofs.Walks.{by-test, both-true, both-second, both-false-left, both-false-right}
+use Rattle.sudoku.proofs.Walks.{by-test, both-true, both-second, both-false-left, both-false-right, both-assoc, and-both}
 use Rattle.puzzle.specs.Givens.{isOn}
 use Rattle.board.specs.Board.{mayStand}
 use borrow.Author.Needs.{needs}
@@ -26,11 +26,8 @@ flag-by true flag =
 flag-by false flag = sym (both-second _ _ (ap not (both-false-right (isOn flag) false refl)))
 
 all-four : (a b c d : Bool) → (((a && b) && c) && d) ≡ both a (both (both b c) d)
-unfolding both
-all-four true true true d = refl
-all-four true true false d = refl
-all-four true false c d = refl
-all-four false b c d = refl
+all-four a b c d =
+    rw (and-both a b, and-both (both a b) c, and-both (both (both a b) c) d, both-assoc a b c) (both-assoc a (both b c) d)
 
 greatest-flag-requires : tie.Need-greatest-flag-requires
 greatest-flag-requires c κs = search needs

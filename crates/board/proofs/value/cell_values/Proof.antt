@@ -10,8 +10,9 @@ use borrow.Author.Needs.{needs}
 use lib.ListN.{getD}
 use Rattle.sudoku.specs.Tests.{both, every}
 use Rattle.sudoku.specs.Grid.{inRange}
+use Rattle.sudoku.proofs.Walks.{every-both}
 use Rattle.board.specs.Board.{mayStand, digitValue, solutionValue}
-use Rattle.board.proofs.Values.{at-next, turn, at-end, every-both}
+use Rattle.board.proofs.Values.{at-next, turn, at-end}
 use Rattle.board.proofs.value.cell_values.Statement.{statement}
 use Rattle.board.proofs.value.cell_values.Tie as tie
 

@@ -3,8 +3,7 @@
 use Prim.Native.Nat.{_+_}
 use mathlib.Core.Path.{_≡_}
 use native.Mathlib.Omega.{arith}
-use Rattle.record.specs.Items.{checkItem}
-use Rattle.record.specs.Counting.{itemOf, askedFrom}
+use Rattle.record.specs.Counting.{itemOf}
 use borrow.Author.Needs.{needs}
 use Rattle.record.proofs.items.item_at.Statement.{statement}
 use Rattle.record.proofs.items.item_at.Tie as tie
@@ -69,7 +68,7 @@ returns-3 c =
     rw (c .whole3 .ensures, c .before .two-at .ensures, c .before .before .enum-told3 .given .1, on)
 
 returns-4 : tie.Need-returns-4
-unfolding itemOf askedFrom checkItem
+unfolding itemOf
 returns-4 c = rw (c .whole4 .ensures, c .before .check-item .ensures, c .before .before .asked-at .ensures, c .before .before .before .enum-told4 .given .1)
 
 returns-5 : tie.Need-returns-5

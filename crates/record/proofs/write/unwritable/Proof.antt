@@ -1,19 +1,13 @@
 -- `record::write::unwritable` meets its contract: 1 and 2, 14 of the slots, then 14 of the stored checks.
 -- Assumes nothing.
-use mathlib.Core.Path.{_≡_, refl, sym, ap, _∙_}
-use mathlib.Core.Bool.{Bool, true, false, _&&_}
-use Rattle.sudoku.specs.Tests.{both}
+use mathlib.Core.Path.{_≡_, sym, ap, _∙_}
+use Rattle.sudoku.proofs.Walks.{and-both}
 use Rattle.puzzle.specs.declared.Refusal.{Refusal}
 use Rattle.play.proofs.Accepted.{lent-refuses, slots-decide, lent-counts}
 use Rattle.record.proofs.Writing.{refused-before, refused-after}
 use borrow.Author.Needs.{needs}
 use Rattle.record.proofs.write.unwritable.Statement.{statement}
 use Rattle.record.proofs.write.unwritable.Tie as tie
-
-and-both : (a b : Bool) → (a && b) ≡ both a b
-unfolding both
-and-both true b = refl
-and-both false b = refl
 
 lent-number-requires : tie.Need-lent-number-requires
 lent-number-requires c κs = search needs
