@@ -17,8 +17,9 @@ use Rattle.puzzle.specs.declared.Refusal.{Refusal}
 use Rattle.puzzle.specs.declared.Given.{Given}
 use Rattle.puzzle.specs.Refusals.{accepted, refusal, isAccepted}
 use Rattle.puzzle.specs.declared.Layout.the-variants.{Triples}
-use Rattle.puzzle.specs.Givens.{triples, givensIn}
-use Rattle.puzzle.specs.Rows.{rowsOf, flat}
+use Rattle.puzzle.specs.Givens.{triples}
+use Rattle.puzzle.specs.Code.GivenBytes.{givensIn}
+use Rattle.puzzle.specs.Code.Rows.{rowsOf, flat}
 use Rattle.puzzle.specs.Vouch.{wellPosed}
 use Rattle.puzzle.proofs.GivenBytes.{triples-in}
 use Rattle.puzzle.proofs.Rows.{flat-rows}

@@ -8,7 +8,7 @@ use lib.ListN.{getD}
 use Rattle.sudoku.specs.Tests.{pick, both}
 use Rattle.board.specs.Open.{Opened, openOf}
 use Rattle.record.specs.Reopen.{reopenOf}
-use Rattle.texts.specs.Parts.{partOf}
+use Rattle.texts.specs.Code.Parts.{partOf}
 use Rattle.texts.specs.Grids.{cellsOf, givensOf}
 
 -- a record's first byte is the kind of its first item, 1 to 7; a text never starts so

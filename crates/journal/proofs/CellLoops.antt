@@ -1,5 +1,5 @@
 -- The loops over a list of cells: what a turn takes off each walk of
--- specs/State and specs/InTurn over what is left of the list, `drop i cells`.
+-- specs/State and specs/Code/InTurn over what is left of the list, `drop i cells`.
 -- Assumes nothing.
 use Prim.Native.Nat.{ℕ, zero, suc, _+_, _-_, _*_, _/_, _%_, _≤_, _<_, _^_}
 use mathlib.Core.Path.{_≡_, refl, sym, ap, _∙_}
@@ -21,7 +21,7 @@ use Rattle.sudoku.proofs.Walks.{by-test, both-second, either-right}
 use Rattle.note.specs.Note.{contains, withMark, without, powerOf}
 use Rattle.note.proofs.Note.{or-power, less-power, power-tests, power-there, contains-zero}
 use Rattle.journal.specs.State.{writeAt, strikeAt, strikeAll, holders, lowest, strikeMasked, writeMasked}
-use Rattle.journal.specs.InTurn.{inTurn, lacks, notMissing}
+use Rattle.journal.specs.Code.InTurn.{inTurn, lacks, notMissing}
 use Rattle.journal.proofs.NoteCells.{holders-small}
 
 -- ---- what is left of the list

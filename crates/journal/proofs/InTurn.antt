@@ -12,7 +12,7 @@ use Rattle.sudoku.specs.Grid.{inRange, isCell, at, peersOf}
 use Rattle.sudoku.proofs.Grid.{at-put-other, is-cell}
 use Rattle.note.specs.Note.{contains}
 use Rattle.journal.specs.State.{lowest, writeAt, strikeAt, everyMasked}
-use Rattle.journal.specs.InTurn.{inTurn, lacks, notMissing, lackInTurn, noneMissingInTurn}
+use Rattle.journal.specs.Code.InTurn.{inTurn, lacks, notMissing, lackInTurn, noneMissingInTurn}
 use Rattle.journal.proofs.NoteCells.{Within, Apart, pick-either}
 use Rattle.journal.proofs.PeerCells.{peers-within, peers-distinct}
 

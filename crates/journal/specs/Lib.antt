@@ -2,7 +2,7 @@ pub mod Limits
 pub mod Kinds
 pub mod Bytes
 pub mod State
-pub mod InTurn
 pub mod Slots
 pub mod Counts
 pub mod StoredChecks
+pub mod Code

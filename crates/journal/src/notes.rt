@@ -14,7 +14,7 @@ ghost use Rattle.sudoku.specs.Tests.{pick, either, bit};
 ghost use Rattle.sudoku.specs.Grid.{at};
 ghost use Rattle.note.specs.Note.{contains as containsOf, powerOf};
 ghost use Rattle.journal.specs.State.{writeAt, strikeAt, strikeAll, holders as holdersOf, lowest, strikeMasked, writeMasked};
-ghost use Rattle.journal.specs.InTurn.{lacks, notMissing, lackInTurn, noneMissingInTurn};
+ghost use Rattle.journal.specs.Code.InTurn.{lacks, notMissing, lackInTurn, noneMissingInTurn};
 
 // The kept note of a cell, and an empty note where there is no such cell.
 pub fn note_at(notes: &[u16; 81], cell: usize) -> u16

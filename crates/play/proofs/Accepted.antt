@@ -23,7 +23,7 @@ use Rattle.board.specs.Open.{answer}
 use Rattle.play.specs.Play.{unsoundSlot, journalRefusal, played, moveTests, callTests, recordMove, playOf, slotRefusal, undoTests, undone, undoOf, redoTests, redone, redoOf, latestNumber, latestPart, nextNumber, nextPart}
 use Rattle.play.specs.Check.{checked, checkTests, checkOn, withCheck, checkOf}
 use Rattle.journal.specs.Slots.{slotAt, slotPart, slotStart}
-use Rattle.play.specs.Parts.{orNumber}
+use Rattle.play.specs.Code.Parts.{orNumber}
 use Rattle.play.proofs.Joined.{moves-numbered, joined, join-last}
 
 -- ---- the counts of a board value that number 2 does not refuse

@@ -13,7 +13,7 @@ use Rattle.sudoku.proofs.Walks.{by-test, pick-true, pick-false}
 use Rattle.journal.specs.declared.Move.{Move}
 use Rattle.journal.specs.declared.Move.the-variants.{Place, Erase, WriteMark, StrikeMark}
 use Rattle.journal.specs.State.{State}
-use Rattle.play.specs.Parts.{orNumber}
+use Rattle.play.specs.Code.Parts.{orNumber}
 use Rattle.play.specs.Play.{moveTests}
 
 -- no test of the list has the number 0, which says that nothing is refused

@@ -1,3 +1,3 @@
 pub mod Play
 pub mod Check
-pub mod Parts
+pub mod Code

@@ -35,7 +35,7 @@ ghost use Rattle.journal.specs.State.{putDigit, strikeAll, perform as performOf
 ghost use Rattle.journal.specs.Limits.{slotBytes};
 ghost use Rattle.journal.specs.Bytes.{laid};
 ghost use Rattle.journal.specs.Slots.{slotFor, plainSlot, bytesOf};
-ghost use Rattle.play.specs.Parts.{parts};
+ghost use Rattle.play.specs.Code.Parts.{parts};
 ghost use Rattle.play.specs.Play.{playOf, placeOf, eraseOf, writeMarkOf, strikeMarkOf};
 
 // A digit put at a cell, in place; where the grid has no such cell the digits stay as they are.

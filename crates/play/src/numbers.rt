@@ -22,7 +22,7 @@ ghost use Rattle.sudoku.specs.Grid.{inRange, onGrid, at};
 ghost use Rattle.note.specs.Note.{contains};
 ghost use Rattle.journal.specs.declared.Move.the-variants.{Place, Erase, WriteMark, StrikeMark};
 ghost use Rattle.journal.specs.Limits.{maxMoves};
-ghost use Rattle.play.specs.Parts.{parts, orNumber};
+ghost use Rattle.play.specs.Code.Parts.{parts, orNumber};
 ghost use Rattle.play.specs.Play.{moveTests};
 
 // 3 and 4, which every move tests first.

@@ -1,4 +1,4 @@
--- The laws of specs/Units: no digit stands twice in a column, a row or a box exactly where no cell conflicts.
+-- The laws of specs/Code/Units: no digit stands twice in a column, a row or a box exactly where no cell conflicts.
 -- Two peers stand in one column of the grid, or of the grid in one of the two orders,
 -- and two cells of such a column are peers: antt works both out over all cells.
 -- Assumes nothing.
@@ -17,7 +17,7 @@ use Rattle.sudoku.proofs.Walks.{by-test, same-test, both-true, both-left, both-
 use Rattle.sudoku.proofs.Grid.{cell-from, cell-to, is-cell}
 use Rattle.sudoku.proofs.Listed.{listed-from, listed-agree}
 use Rattle.puzzle.specs.Puzzle.{isConsistent}
-use Rattle.puzzle.specs.Units.{stepClear, columnsClear, reordered, rowOrder, boxOrder}
+use Rattle.puzzle.specs.Code.Units.{stepClear, columnsClear, reordered, rowOrder, boxOrder}
 use Rattle.puzzle.proofs.Puzzle.{consistent-exactly}
 
 -- ---- a loop without early exit

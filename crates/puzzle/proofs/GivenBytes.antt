@@ -17,7 +17,8 @@ use Rattle.puzzle.specs.declared.Refusal.{Refusal}
 use Rattle.puzzle.specs.declared.Layout.{Layout}
 use Rattle.puzzle.specs.declared.Layout.the-variants.{Triples, Items}
 use Rattle.puzzle.specs.Refusals.{orElse, firstRefused}
-use Rattle.puzzle.specs.Givens.{given, triples, givenFrom, givenAt, givensAt, givenIn, givensIn, precedes, ascendFrom, ascending, putGivens, markGivens}
+use Rattle.puzzle.specs.Givens.{given, triples, precedes, ascendFrom, ascending, putGivens, markGivens}
+use Rattle.puzzle.specs.Code.GivenBytes.{givenFrom, givenAt, givensAt, givenIn, givensIn}
 use Rattle.puzzle.specs.Vouch.{givenMatches, givensMatch}
 
 -- ---- the walks of the code

@@ -15,7 +15,7 @@ use Rattle.sudoku.proofs.Listed.{length-listed, listed-from}
 use Rattle.sudoku.proofs.Grid.{is-cell, peers-length, peers-to, cell-le}
 use Rattle.puzzle.specs.declared.Given.{Given}
 use Rattle.puzzle.specs.Refusals.{firstRefused, orElse}
-use Rattle.puzzle.specs.Rows.{rowAt, rowsOf, entryAt, flat}
+use Rattle.puzzle.specs.Code.Rows.{rowAt, rowsOf, entryAt, flat}
 use Rattle.puzzle.specs.Vouch.{firstHolding, solutionConflict, givenMatches, givensMatch}
 use Rattle.puzzle.proofs.Refusals.{walk-same}
 

@@ -1,15 +1,13 @@
 -- Givens of document 01 (proof.rs): triples (row, column, digit), strictly ascending in that order.
 -- Assumes nothing.
-use Prim.Native.Nat.{ℕ, _+_, _*_}
+use Prim.Native.Nat.{ℕ}
 use mathlib.Core.Bool.{Bool, true, not}
 use mathlib.Core.List.{List, [], _∷_}
 use lib.Dec.{ltb, eqb}
-use lib.ListN.{getD, replicate}
-use Rattle.sudoku.specs.Tests.{both, either, listed}
+use lib.ListN.{replicate}
+use Rattle.sudoku.specs.Tests.{both, either}
 use Rattle.sudoku.specs.Grid.{cellOf, at, put}
 use Rattle.puzzle.specs.declared.Given.{Given}
-use Rattle.puzzle.specs.declared.Layout.{Layout}
-use Rattle.puzzle.specs.declared.Layout.the-variants.{Triples, Items}
 
 abbrev pub given : ℕ → ℕ → ℕ → Given
 given row column digit = record { row = row; column = column; digit = digit }
@@ -20,27 +18,6 @@ triples [] = []
 triples (row ∷ []) = []
 triples (row ∷ column ∷ []) = []
 triples (row ∷ column ∷ digit ∷ bytes) = given row column digit ∷ triples bytes
-
--- the given whose three bytes start at an index; bytes past the end read as 0
-unfoldable pub givenFrom : List ℕ → ℕ → Given
-givenFrom bytes start = given (getD bytes start 0) (getD bytes (start + 1) 0) (getD bytes (start + 2) 0)
-
--- the given with index i, counted from 0, where the first starts
--- at `start` and each other `step` bytes after the one before it
-unfoldable pub givenAt : List ℕ → ℕ → ℕ → ℕ → Given
-givenAt bytes start step i = givenFrom bytes (start + step * i)
-
--- the first `count` givens that stand so
-unfoldable pub givensAt : List ℕ → ℕ → ℕ → ℕ → List Given
-givensAt bytes start step count = listed (givenAt bytes start step) count 0
-
--- opening's triples stand one after the other; an item of a record has its kind byte first
-unfoldable pub givenIn : Layout → List ℕ → ℕ → Given
-givenIn Triples bytes i = givenAt bytes 0 3 i
-givenIn Items bytes i = givenAt bytes 1 4 i
-
-unfoldable pub givensIn : Layout → List ℕ → ℕ → List Given
-givensIn layout bytes count = listed (givenIn layout bytes) count 0
 
 -- g stands strictly before h in the order of row, column, digit
 unfoldable pub precedes : Given → Given → Bool

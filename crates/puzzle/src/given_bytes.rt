@@ -7,7 +7,8 @@ use sudoku::cell_of;
 ghost use mathlib.Core.Path.{_≡_};
 ghost use Prim.Native.Nat.{_≤_, _+_};
 ghost use lib.ListN.{length};
-ghost use Rattle.puzzle.specs.Givens.{givenFrom, givenIn, givensIn, precedes as precedesTo, ascending, digitsOf, givenCells};
+ghost use Rattle.puzzle.specs.Givens.{precedes as precedesTo, ascending, digitsOf, givenCells};
+ghost use Rattle.puzzle.specs.Code.GivenBytes.{givenFrom, givenIn, givensIn};
 
 // The given whose three bytes start at an index; bytes past the end read as 0.
 fn given_from(bytes: &[u8], start: usize) -> Given

@@ -12,7 +12,7 @@ ghost use Prim.Native.Nat.{_≤_};
 ghost use lib.Dec.{ltb, eqb};
 ghost use lib.ListN.{getD};
 ghost use Rattle.sudoku.specs.Tests.{both, either, every};
-ghost use Rattle.puzzle.specs.Units.{stepClear, columnsClear, reordered, rowOrder, boxOrder};
+ghost use Rattle.puzzle.specs.Code.Units.{stepClear, columnsClear, reordered, rowOrder, boxOrder};
 
 // What was found so far, and two entries: not the same digit. A digit of 0 means none.
 fn apart(clear: bool, digit: u8, other: u8) -> bool

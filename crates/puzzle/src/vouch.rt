@@ -26,8 +26,8 @@ ghost use lib.ListN.{length};
 ghost use Rattle.sudoku.specs.Tests.{both, every};
 ghost use Rattle.sudoku.specs.Grid.{inRange, at};
 ghost use Rattle.puzzle.specs.Refusals.{firstRefused};
-ghost use Rattle.puzzle.specs.Givens.{givensIn};
-ghost use Rattle.puzzle.specs.Rows.{rowAt, rowsOf, flat as flatOf};
+ghost use Rattle.puzzle.specs.Code.GivenBytes.{givensIn};
+ghost use Rattle.puzzle.specs.Code.Rows.{rowAt, rowsOf, flat as flatOf};
 ghost use Rattle.puzzle.specs.Vouch.{solutionDigit, firstHolding, solutionConflict, givenMatches, givensMatch, vouch as vouchOf, wellPosed};
 
 // 23 and 24 at one cell of the solution.

@@ -27,7 +27,7 @@ use Rattle.record.specs.declared.Shape.{Shape}
 use Rattle.journal.specs.declared.Asked.{Asked}
 use Rattle.record.specs.Items.{encode, checkItem}
 use Rattle.record.specs.Scan.{broken, takeItem, byKind, body2, body3, body5}
-use Rattle.record.specs.Counting.{shape, shapeOf, taken, readOf, moveAt, askedFrom, itemOf}
+use Rattle.record.specs.Code.Counting.{shape, shapeOf, taken, readOf, moveAt, askedFrom, itemOf}
 
 -- ---- cases over the kinds
 

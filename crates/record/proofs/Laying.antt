@@ -26,7 +26,7 @@ use Rattle.record.specs.declared.Item.{Item}
 use Rattle.record.specs.declared.Item.the-variants.{Played}
 use Rattle.record.specs.Items.{encode, encodeAll, givenItem, checkItem, recordOf}
 use Rattle.record.specs.Write.{givensFrom, givensOf, movesOf, askedOf, partsOf}
-use Rattle.record.specs.Laying.{givenBytes, givensBytes, movesBytes, checksBytes}
+use Rattle.record.specs.Code.Laying.{givenBytes, givensBytes, movesBytes, checksBytes}
 use Rattle.record.proofs.Lengths.{length-moves, record-joined, record-length}
 
 -- ---- laying

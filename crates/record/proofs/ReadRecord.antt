@@ -14,7 +14,8 @@ use Rattle.puzzle.specs.declared.Given.{Given as Setters}
 use Rattle.puzzle.specs.declared.Layout.the-variants.{Items}
 use Rattle.puzzle.specs.declared.Refusal.{Refusal}
 use Rattle.puzzle.specs.Refusals.{refusal, accepted, isAccepted, refusedIf, orElse}
-use Rattle.puzzle.specs.Givens.{givensAt, givensIn, ascending}
+use Rattle.puzzle.specs.Givens.{ascending}
+use Rattle.puzzle.specs.Code.GivenBytes.{givensAt, givensIn}
 use Rattle.puzzle.specs.Vouch.{vouch}
 use Rattle.puzzle.proofs.Accepted.{if-not}
 use Rattle.puzzle.proofs.Refusals.{refused-if, or-else-by, or-else-passed, or-else-past}
@@ -23,7 +24,7 @@ use Rattle.record.specs.declared.Scanned.{Scanned}
 use Rattle.record.specs.Items.{Parts, encode, encodeAll, givenItem}
 use Rattle.record.specs.Scan.{malformed, partsOfBytes}
 use Rattle.record.specs.Reopen.{anyLate, oversized, miscounted, unreadable}
-use Rattle.record.specs.Counting.{scanned, refusedBy, scannedOf, isOversized, miscountedBy, readRecord}
+use Rattle.record.specs.Code.Counting.{scanned, refusedBy, scannedOf, isOversized, miscountedBy, readRecord}
 use Rattle.record.proofs.WriteBack.{IsByte, bytes-record}
 use Rattle.record.proofs.Lengths.{record-joined}
 use Rattle.record.proofs.Readable.{formed}

@@ -30,7 +30,7 @@ use Rattle.record.specs.declared.Step.the-variants.{Next, Stopped}
 use Rattle.record.specs.Items.{Parts, encode}
 use Rattle.record.specs.Scan.{Taken, got, broken, Items, ended, cut, then, takeItem, byKind, body2, body3, body5, goOn, itemsIn, itemsOfBytes, reached, mayStand, scan, malformed, add, noParts, partsIn, partsOfBytes}
 use Rattle.record.specs.Reopen.{anyLate}
-use Rattle.record.specs.Counting.{taken, readOf, progress, Room, givenStep, moveStep, undoneStep, checkStep, itemStep, readStep, stepOf, scanned, refusedBy, malformedAt, scannedOf}
+use Rattle.record.specs.Code.Counting.{taken, readOf, progress, Room, givenStep, moveStep, undoneStep, checkStep, itemStep, readStep, stepOf, scanned, refusedBy, malformedAt, scannedOf}
 use Rattle.record.proofs.ReadBack.{encode-some}
 use Rattle.record.proofs.KindBytes.{kinds, other-kind}
 

@@ -2,5 +2,4 @@ pub mod Items
 pub mod Write
 pub mod Scan
 pub mod Reopen
-pub mod Counting
-pub mod Laying
+pub mod Code

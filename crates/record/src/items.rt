@@ -16,7 +16,7 @@ ghost use Rattle.journal.specs.Bytes.{two};
 ghost use Rattle.record.specs.declared.Item.the-variants.{Given};
 ghost use Rattle.record.specs.declared.Read.the-variants.{Whole};
 ghost use Rattle.record.specs.Items.{checkItem};
-ghost use Rattle.record.specs.Counting.{shapeOf, taken, readOf, moveAt, askedFrom, itemOf};
+ghost use Rattle.record.specs.Code.Counting.{shapeOf, taken, readOf, moveAt, askedFrom, itemOf};
 
 // What the kind byte of an item decides.
 pub fn shape(kind: u8) -> Shape

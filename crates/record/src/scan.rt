@@ -20,7 +20,7 @@ ghost use lib.Dec.{leb};
 ghost use Rattle.sudoku.specs.Tests.{either};
 ghost use Rattle.journal.specs.Limits.{maxMoves};
 ghost use Rattle.record.specs.Reopen.{unreadable as unreadableOf};
-ghost use Rattle.record.specs.Counting.{Room, givenStep, moveStep, undoneStep, checkStep, itemStep, stepOf, refusedBy, malformedAt, scannedOf, isOversized, miscountedBy, readRecord};
+ghost use Rattle.record.specs.Code.Counting.{Room, givenStep, moveStep, undoneStep, checkStep, itemStep, stepOf, refusedBy, malformedAt, scannedOf, isOversized, miscountedBy, readRecord};
 
 // A given: it stands among the givens.
 fn given_step(state: Progress, next: usize) -> Step

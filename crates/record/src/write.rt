@@ -46,7 +46,7 @@ ghost use Rattle.journal.specs.Bytes.{over};
 ghost use Rattle.record.specs.declared.Item.the-variants.{Played};
 ghost use Rattle.record.specs.Items.{encode, checkItem, recordOf};
 ghost use Rattle.record.specs.Write.{partsOf, unsoundCheck as unsoundCheckOf, unwritable as unwritableOf, writeOf};
-ghost use Rattle.record.specs.Laying.{givenBytes, givensBytes, movesBytes, checksBytes};
+ghost use Rattle.record.specs.Code.Laying.{givenBytes, givensBytes, movesBytes, checksBytes};
 
 // 14 of stored check n, with inner 1.
 fn unsound_check(given: &[u8; 81], checks: &[u8], n: usize) -> Refusal

@@ -25,9 +25,9 @@ use Rattle.journal.proofs.Memory.{length-stored}
 use Rattle.board.specs.declared.Board.{Board}
 use Rattle.board.specs.Board.{stateOf}
 use Rattle.journal.specs.declared.Asked.{Asked}
-use Rattle.record.specs.Counting.{askedFrom}
+use Rattle.record.specs.Code.Counting.{askedFrom}
 use Rattle.record.specs.Reopen.{toPlay, checkRefusal, checksRefusal}
-use Rattle.reopen.specs.Reopening.{asksAt, askedNumber}
+use Rattle.reopen.specs.Code.Reopening.{asksAt, askedNumber}
 use Rattle.record.proofs.Givens.{count-not}
 
 -- ---- cells to play

@@ -17,8 +17,8 @@ use Rattle.journal.proofs.Memory.{two-bytes}
 use Rattle.journal.specs.declared.Asked.{Asked}
 use Rattle.record.specs.declared.Item.the-variants.{Played, Undone}
 use Rattle.record.specs.Items.{Parts, encode, encodeAll, givenItem, checkItem, recordOf}
-use Rattle.record.specs.Counting.{moveAt, askedFrom}
-use Rattle.reopen.specs.Reopening.{movesAt, asksAt}
+use Rattle.record.specs.Code.Counting.{moveAt, askedFrom}
+use Rattle.reopen.specs.Code.Reopening.{movesAt, asksAt}
 use Rattle.record.proofs.ReadBack.{CheckFits}
 use Rattle.record.proofs.Lengths.{length-givens, length-checks, record-joined, record-length}
 use Rattle.record.proofs.KindBytes.{move-shift, ask-shift}

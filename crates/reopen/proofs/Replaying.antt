@@ -25,13 +25,13 @@ use Rattle.journal.specs.Slots.{slotFor, bytesOf}
 use Rattle.journal.proofs.Stores.{laid-over}
 use Rattle.board.specs.Board.{whole, stateOf, countsOf, boardOf, moved}
 use Rattle.board.specs.Open.{answer}
-use Rattle.play.specs.Parts.{parts}
+use Rattle.play.specs.Code.Parts.{parts}
 use Rattle.play.specs.Play.{Played, played, moveTests, recordMove}
 use Rattle.record.specs.declared.Item.the-variants.{Played as PlayedItem}
 use Rattle.record.specs.Items.{encode}
-use Rattle.record.specs.Counting.{moveAt}
+use Rattle.record.specs.Code.Counting.{moveAt}
 use Rattle.record.specs.Reopen.{replay}
-use Rattle.reopen.specs.Reopening.{movesAt, nextRefusal, performed}
+use Rattle.reopen.specs.Code.Reopening.{movesAt, nextRefusal, performed}
 
 recorded-le : (c : Counts) → recorded c .standing ≤ c .standing + 1
 unfolding recorded

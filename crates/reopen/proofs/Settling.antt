@@ -15,8 +15,9 @@ use Rattle.sudoku.proofs.Each.{Each}
 use Rattle.puzzle.specs.declared.Layout.the-variants.{Items}
 use Rattle.puzzle.specs.declared.Refusal.{Refusal}
 use Rattle.puzzle.specs.Refusals.{refusal, accepted, isAccepted, refusedIf, orElse}
-use Rattle.puzzle.specs.Givens.{isOn, givensIn}
-use Rattle.puzzle.specs.Rows.{rowsOf, flat}
+use Rattle.puzzle.specs.Givens.{isOn}
+use Rattle.puzzle.specs.Code.GivenBytes.{givensIn}
+use Rattle.puzzle.specs.Code.Rows.{rowsOf, flat}
 use Rattle.puzzle.proofs.Accepted.{if-not, or-else-left, or-else-right}
 use Rattle.puzzle.proofs.Refusals.{refused-if, or-else-by, or-else-past}
 use Rattle.puzzle.proofs.Rows.{flat-rows}
@@ -34,8 +35,8 @@ use Rattle.record.specs.declared.Scanned.{Scanned}
 use Rattle.record.specs.Items.{Parts, recordOf}
 use Rattle.record.specs.Scan.{malformed, partsOfBytes}
 use Rattle.record.specs.Reopen.{oversized, unreadable, replay, takeBackAll, toPlay, checksRefusal, reopened, settledRecord, replayed, reopenOf}
-use Rattle.record.specs.Counting.{refusedBy, readRecord}
-use Rattle.reopen.specs.Reopening.{movesAt, asksAt, settledBy, reopenedOf, Reopens}
+use Rattle.record.specs.Code.Counting.{refusedBy, readRecord}
+use Rattle.reopen.specs.Code.Reopening.{movesAt, asksAt, settledBy, reopenedOf, Reopens}
 use Rattle.record.proofs.WriteBack.{IsByte, bytes-record, checks-fit}
 use Rattle.record.proofs.Readable.{formed, sized, Sized}
 use Rattle.record.proofs.ReadRecord.{countsOf as countsIn, givens-read, scan-formed}

@@ -1,1 +1,1 @@
-pub mod Reopening
+pub mod Code

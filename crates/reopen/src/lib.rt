@@ -45,9 +45,9 @@ ghost use Rattle.journal.specs.Bytes.{over};
 ghost use Rattle.journal.specs.StoredChecks.{judged, storedBytes, storedAll};
 ghost use Rattle.board.specs.Board.{whole};
 ghost use Rattle.board.specs.Open.{noMoves, noChecks, Gives};
-ghost use Rattle.play.specs.Parts.{parts};
+ghost use Rattle.play.specs.Code.Parts.{parts};
 ghost use Rattle.record.specs.Reopen.{replay as replayOf, takeBackAll, toPlay, checkRefusal, checksRefusal, reopenOf};
-ghost use Rattle.reopen.specs.Reopening.{movesAt, asksAt, nextRefusal, askedNumber, settledBy, reopenedOf, Reopens};
+ghost use Rattle.reopen.specs.Code.Reopening.{movesAt, asksAt, nextRefusal, askedNumber, settledBy, reopenedOf, Reopens};
 
 // Why move k is refused, asked of a board's parts: 28 before 29.
 fn next_refusal<'a>(

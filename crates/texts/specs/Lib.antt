@@ -1,3 +1,3 @@
 pub mod Commands
 pub mod Grids
-pub mod Parts
+pub mod Code

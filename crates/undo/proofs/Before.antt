@@ -23,7 +23,7 @@ use Rattle.board.proofs.Numbers.{last-if}
 use Rattle.play.specs.Play.{undoBefore, redoBefore, slotRefusal, canTakeBack, canRetake, undoTests, undoOf, redoTests, redoOf}
 use Rattle.play.proofs.Joined.{Numbered, join-refused, join-passed}
 use Rattle.play.proofs.Accepted.{slot-plain, slot-14, undo-refused, redo-refused}
-use Rattle.undo.specs.Halves.{digitLeft, digitFound, marksLeft, marksFound}
+use Rattle.undo.specs.Code.Halves.{digitLeft, digitFound, marksLeft, marksFound}
 use Rattle.undo.proofs.Parts.{left-parts, found-parts}
 
 -- ---- the slot: its soundness, and what stands asked of a state's parts where it is sound

@@ -22,12 +22,12 @@ use Rattle.journal.specs.State.{State, withNotes, putDigit, lowest, writeMasked
 use Rattle.journal.specs.declared.Counts.{Counts}
 use Rattle.journal.specs.Counts.{counts, takenBack}
 use Rattle.journal.specs.Kinds.{placeKind, eraseKind, writeKind}
-use Rattle.journal.specs.InTurn.{inTurn, lackInTurn, noneMissingInTurn}
+use Rattle.journal.specs.Code.InTurn.{inTurn, lackInTurn, noneMissingInTurn}
 use Rattle.journal.specs.Slots.{moveOf, digitChange, soundPlace, isSound, isFree}
 use Rattle.journal.proofs.SlotLaws.{sound-place}
 use Rattle.journal.proofs.InTurn.{lack-peers, have-peers}
-use Rattle.play.specs.Parts.{parts}
-use Rattle.undo.specs.Halves.{digitBack, digitAgain, slotToRedo, marksBack, marksAgain, digitLeft, digitFound, marksLeft, marksFound}
+use Rattle.play.specs.Code.Parts.{parts}
+use Rattle.undo.specs.Code.Halves.{digitBack, digitAgain, slotToRedo, marksBack, marksAgain, digitLeft, digitFound, marksLeft, marksFound}
 
 -- ---- the next move to redo
 

@@ -6,7 +6,7 @@ ghost use mathlib.Core.Path.{_≡_};
 ghost use Prim.Native.Nat.{_<_};
 ghost use Rattle.sudoku.specs.Tests.{first};
 ghost use Rattle.play.specs.Play.{undoBefore, redoBefore};
-ghost use Rattle.undo.specs.Halves.{slotToRedo};
+ghost use Rattle.undo.specs.Code.Halves.{slotToRedo};
 
 // Why undo is refused before its slot is asked: 1 2 4 12. 0 where it is not.
 pub fn undo_number(board: Board, length: usize) -> u8

@@ -10,8 +10,8 @@ ghost use mathlib.Core.Path.{_≡_};
 ghost use mathlib.Core.List.{List};
 ghost use Rattle.sudoku.specs.Grid.{cellOf};
 ghost use Rattle.journal.specs.Slots.{digitChange};
-ghost use Rattle.play.specs.Parts.{parts};
-ghost use Rattle.undo.specs.Halves.{digitBack, digitAgain, digitLeft, digitFound};
+ghost use Rattle.play.specs.Code.Parts.{parts};
+ghost use Rattle.undo.specs.Code.Halves.{digitBack, digitAgain, digitLeft, digitFound};
 
 // Whether what was to be changed stood as it must, and the status afterwards.
 pub struct Changed {

@@ -29,9 +29,9 @@ ghost use mathlib.Core.List.{List};
 ghost use Rattle.journal.specs.State.{performAgain};
 ghost use Rattle.journal.specs.Slots.{moveOf};
 ghost use Rattle.board.specs.Board.{whole, stateOf};
-ghost use Rattle.play.specs.Parts.{parts};
+ghost use Rattle.play.specs.Code.Parts.{parts};
 ghost use Rattle.play.specs.Play.{canTakeBack, undoOf, redoOf};
-ghost use Rattle.undo.specs.Halves.{backIf};
+ghost use Rattle.undo.specs.Code.Halves.{backIf};
 
 // Takes back the latest standing move. Refused by 1 2 4 12 14.
 pub fn undo(board: Board, journal: &[u8]) -> Answer

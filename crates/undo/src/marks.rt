@@ -19,10 +19,10 @@ ghost use mathlib.Core.List.{List};
 ghost use Rattle.sudoku.specs.Grid.{at, peersOf};
 ghost use Rattle.note.specs.Note.{contains as containsOf};
 ghost use Rattle.journal.specs.State.{writeAt, strikeAt, writeMasked, strikeMasked};
-ghost use Rattle.journal.specs.InTurn.{lackInTurn, noneMissingInTurn};
+ghost use Rattle.journal.specs.Code.InTurn.{lackInTurn, noneMissingInTurn};
 ghost use Rattle.journal.specs.Slots.{moveOf};
-ghost use Rattle.play.specs.Parts.{parts};
-ghost use Rattle.undo.specs.Halves.{marksBack, marksAgain, marksLeft, marksFound};
+ghost use Rattle.play.specs.Code.Parts.{parts};
+ghost use Rattle.undo.specs.Code.Halves.{marksBack, marksAgain, marksLeft, marksFound};
 
 // The mark written at a cell. Answered is whether it was lacking there.
 fn write_lacking(notes: &mut [u16; 81], cell: usize, digit: u8) -> bool

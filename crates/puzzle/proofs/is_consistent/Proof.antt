@@ -5,7 +5,7 @@ use mathlib.Core.Path.{sym, _∙_}
 use borrow.Author.Tests.{not-true, not-false}
 use borrow.Author.Needs.{needs}
 use Rattle.sudoku.proofs.Walks.{both-first, both-false-left}
-use Rattle.puzzle.specs.Units.{columnsClear, reordered, rowOrder}
+use Rattle.puzzle.specs.Code.Units.{columnsClear, reordered, rowOrder}
 use Rattle.puzzle.proofs.Columns.{units-clear}
 use Rattle.puzzle.proofs.is_consistent.Statement.{statement}
 use Rattle.puzzle.proofs.is_consistent.Tie as tie

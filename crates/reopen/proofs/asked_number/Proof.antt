@@ -5,7 +5,7 @@ use mathlib.Core.Bool.{not}
 use Rattle.puzzle.specs.Givens.{isGiven}
 use Rattle.sudoku.proofs.Walks.{refused, no-if}
 use Rattle.board.proofs.Numbers.{last-if}
-use Rattle.reopen.specs.Reopening.{askedNumber}
+use Rattle.reopen.specs.Code.Reopening.{askedNumber}
 use Rattle.reopen.proofs.asked_number.Statement.{statement}
 use Rattle.reopen.proofs.asked_number.Tie as tie
 use borrow.Author.Needs.{needs}

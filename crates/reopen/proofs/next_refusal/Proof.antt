@@ -5,7 +5,7 @@ use mathlib.Core.Bool.{not}
 use borrow.Author.Tests.{eq-eqb, ne-eqb}
 use Rattle.sudoku.proofs.Walks.{pick-true, pick-false}
 use Rattle.puzzle.specs.Refusals.{refusal}
-use Rattle.reopen.specs.Reopening.{nextRefusal}
+use Rattle.reopen.specs.Code.Reopening.{nextRefusal}
 use borrow.Author.Needs.{needs}
 use Rattle.reopen.proofs.next_refusal.Statement.{statement}
 use Rattle.reopen.proofs.next_refusal.Tie as tie

@@ -9,7 +9,7 @@ use Rattle.journal.specs.Bytes.{over}
 use Rattle.journal.specs.StoredChecks.{storedBytes, judged}
 use Rattle.journal.proofs.Memory.{stored-length}
 use Rattle.journal.specs.declared.Asked.{Asked}
-use Rattle.record.specs.Counting.{askedFrom}
+use Rattle.record.specs.Code.Counting.{askedFrom}
 use Rattle.record.specs.Reopen.{toPlay, checksRefusal}
 use Rattle.record.proofs.Laying.{Laying, laying-start, laying-more, laying-end}
 use Rattle.reopen.proofs.Checking.{asksLeft, asks-all, storedOf, stored-size, stored-turn, check-stops, check-goes-on, check-ends, stored-ends}

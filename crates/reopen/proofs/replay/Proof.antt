@@ -14,7 +14,7 @@ use Rattle.board.specs.Board.{whole, stateOf, countsOf}
 use Rattle.board.specs.Open.{answer}
 use Rattle.play.specs.Play.{Played, played}
 use Rattle.record.specs.Reopen.{replay}
-use Rattle.reopen.specs.Reopening.{movesAt}
+use Rattle.reopen.specs.Code.Reopening.{movesAt}
 use Rattle.reopen.proofs.Replaying.{next-stops, next-made, next-wrote, turn-stops, turn-goes-on, turn-standing, replay-ends}
 use borrow.Author.Needs.{needs}
 use Rattle.reopen.proofs.replay.Statement.{statement}

@@ -9,7 +9,7 @@ use lib.ListN.{length}
 use Rattle.puzzle.specs.Refusals.{refusal}
 use Rattle.journal.specs.Bytes.{over}
 use Rattle.board.specs.Board.{stateOf, countsOf, boardOf}
-use Rattle.reopen.specs.Reopening.{asksAt}
+use Rattle.reopen.specs.Code.Reopening.{asksAt}
 use Rattle.reopen.proofs.Checking.{asks-length, storedOf}
 use Rattle.reopen.proofs.Settling.{reopens-refused, reopens-given, no-checks-length, settled-30, settled-refused, settled-gives}
 use Prim.Native.Nat.{ℕ}

@@ -1,7 +1,7 @@
 -- `undo::again_in` meets its contract: the digit with the status, and the marks, are the whole.
 -- Assumes nothing.
 use mathlib.Core.Path.{_∙_}
-use Rattle.play.specs.Parts.{parts}
+use Rattle.play.specs.Code.Parts.{parts}
 use Rattle.undo.proofs.Parts.{again-parts}
 use borrow.Author.Needs.{needs}
 use Rattle.undo.proofs.again_in.Statement.{statement}

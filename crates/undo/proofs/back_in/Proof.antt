@@ -10,8 +10,8 @@ use Rattle.sudoku.proofs.Walks.{both-left, and-both}
 use Rattle.journal.specs.Slots.{isSound}
 use Rattle.board.specs.Board.{stateOf}
 use Rattle.play.specs.Play.{canTakeBack}
-use Rattle.play.specs.Parts.{parts}
-use Rattle.undo.specs.Halves.{backIf}
+use Rattle.play.specs.Code.Parts.{parts}
+use Rattle.undo.specs.Code.Halves.{backIf}
 use Rattle.undo.proofs.Parts.{back-parts}
 use Rattle.undo.proofs.Before.{back-unsound, take-back-parts}
 use borrow.Author.Needs.{needs}

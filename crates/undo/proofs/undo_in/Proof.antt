@@ -11,7 +11,7 @@ use Rattle.board.specs.declared.Answer.{Answer}
 use Rattle.board.specs.Board.{whole, stateOf, countsOf, boardOf, moved}
 use Rattle.play.specs.Play.{canTakeBack, undone}
 use Rattle.play.proofs.Accepted.{undo-made}
-use Rattle.undo.specs.Halves.{backIf}
+use Rattle.undo.specs.Code.Halves.{backIf}
 use Rattle.undo.proofs.Parts.{taken-back-made}
 use Rattle.undo.proofs.Before.{undo-stopped, undo-unfit, undo-fit}
 use borrow.Author.Needs.{needs}

@@ -1,7 +1,7 @@
 -- `board::open::fresh` meets its contract: each field is what its own function says.
 -- Assumes nothing.
 use borrow.Author.Needs.{needs}
-use Rattle.puzzle.specs.Rows.{flat}
+use Rattle.puzzle.specs.Code.Rows.{flat}
 use Rattle.journal.specs.State.{opening}
 use Rattle.board.specs.Board.{fresh, boardOf}
 use Rattle.board.proofs.open.fresh.Statement.{statement}

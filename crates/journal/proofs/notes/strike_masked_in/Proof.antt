@@ -7,7 +7,7 @@ use mathlib.Core.Path.{_≡_, refl, sym, _∙_}
 use lib.ListN.{length, drop}
 use Rattle.sudoku.specs.Tests.{both}
 use Rattle.journal.specs.State.{strikeAt, strikeMasked}
-use Rattle.journal.specs.InTurn.{notMissing, noneMissingInTurn}
+use Rattle.journal.specs.Code.InTurn.{notMissing, noneMissingInTurn}
 use Rattle.journal.proofs.CellLoops.{in-turn-step, in-turn-end, strike-masked-turn, strike-masked-end}
 use borrow.Author.Needs.{needs}
 use Rattle.journal.proofs.notes.strike_masked_in.Statement.{statement}

@@ -7,7 +7,7 @@ use mathlib.Core.Path.{_≡_, refl, sym, _∙_}
 use lib.ListN.{length, drop}
 use Rattle.sudoku.specs.Tests.{both}
 use Rattle.journal.specs.State.{writeAt, writeMasked}
-use Rattle.journal.specs.InTurn.{lacks, lackInTurn}
+use Rattle.journal.specs.Code.InTurn.{lacks, lackInTurn}
 use Rattle.journal.proofs.CellLoops.{in-turn-step, in-turn-end, write-masked-turn, write-masked-end}
 use borrow.Author.Needs.{needs}
 use Rattle.journal.proofs.notes.write_masked_in.Statement.{statement}

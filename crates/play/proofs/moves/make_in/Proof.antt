@@ -1,7 +1,7 @@
 -- `play::moves::make_in` meets its contract: the digits with the status, and the notes, are the whole.
 -- Assumes nothing.
 use mathlib.Core.Path.{_∙_}
-use Rattle.play.specs.Parts.{parts}
+use Rattle.play.specs.Code.Parts.{parts}
 use Rattle.play.proofs.Parts.{perform-parts}
 use borrow.Author.Needs.{needs}
 use Rattle.play.proofs.moves.make_in.Statement.{statement}

@@ -4,7 +4,7 @@ use mathlib.Core.Path.{sym, _∙_}
 use borrow.Author.Tests.{eq-eqb, ne-eqb}
 use Rattle.sudoku.proofs.Walks.{pick-true, pick-false, refused}
 use Rattle.board.proofs.Numbers.{last-if}
-use Rattle.play.specs.Parts.{orNumber}
+use Rattle.play.specs.Code.Parts.{orNumber}
 use Rattle.play.proofs.numbers.call_number.Statement.{statement}
 use Rattle.play.proofs.numbers.call_number.Tie as tie
 

@@ -10,7 +10,7 @@ use borrow.Author.Needs.{needs}
 use lib.ListN.{length}
 use Rattle.puzzle.specs.declared.Layout.{Layout}
 use Rattle.puzzle.specs.declared.Layout.the-variants.{Triples, Items}
-use Rattle.puzzle.specs.Givens.{givenFrom, givenIn, givenAt}
+use Rattle.puzzle.specs.Code.GivenBytes.{givenFrom, givenIn, givenAt}
 use Rattle.puzzle.proofs.GivenBytes.{given-past}
 use Rattle.puzzle.proofs.given_bytes.given_at.Statement.{statement}
 use Rattle.puzzle.proofs.given_bytes.given_at.Tie as tie

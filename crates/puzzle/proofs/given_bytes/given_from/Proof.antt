@@ -1,7 +1,8 @@
 -- `puzzle::given_bytes::given_from` meets its contract: its three bytes, one after the other.
 -- Assumes nothing.
 use borrow.Author.Needs.{needs}
-use Rattle.puzzle.specs.Givens.{given, givenFrom}
+use Rattle.puzzle.specs.Givens.{given}
+use Rattle.puzzle.specs.Code.GivenBytes.{givenFrom}
 use Rattle.puzzle.proofs.given_bytes.given_from.Statement.{statement}
 use Rattle.puzzle.proofs.given_bytes.given_from.Tie as tie
 

@@ -7,7 +7,8 @@ use borrow.Author.Tests.{not-true, not-false}
 use borrow.Author.Needs.{needs}
 use Rattle.sudoku.specs.Tests.{every}
 use Rattle.sudoku.proofs.Walks.{every-more, every-fails, every-all}
-use Rattle.puzzle.specs.Givens.{givenIn, givensIn, precedes, ascending}
+use Rattle.puzzle.specs.Givens.{precedes, ascending}
+use Rattle.puzzle.specs.Code.GivenBytes.{givenIn, givensIn}
 use Rattle.puzzle.proofs.GivenBytes.{inOrder, ascending-walk}
 use Rattle.puzzle.proofs.given_bytes.is_ascending.Statement.{statement}
 use Rattle.puzzle.proofs.given_bytes.is_ascending.Tie as tie

@@ -11,7 +11,8 @@ use Rattle.sudoku.specs.Tests.{run}
 use Rattle.sudoku.specs.Grid.{cellOf, put}
 use Rattle.sudoku.proofs.Walks.{run-more, run-all}
 use Rattle.puzzle.specs.declared.Given.{Given}
-use Rattle.puzzle.specs.Givens.{givenIn, givensIn, digitsOf}
+use Rattle.puzzle.specs.Givens.{digitsOf}
+use Rattle.puzzle.specs.Code.GivenBytes.{givenIn, givensIn}
 use Rattle.puzzle.proofs.GivenBytes.{putAt, put-walk}
 use Rattle.puzzle.proofs.given_bytes.put_givens.Statement.{statement}
 use Rattle.puzzle.proofs.given_bytes.put_givens.Tie as tie

@@ -4,7 +4,7 @@
 use mathlib.Core.Path.{refl, ap, _∙_}
 use borrow.Author.Needs.{needs}
 use Rattle.sudoku.specs.Tests.{every, both}
-use Rattle.puzzle.specs.Units.{columnsClear, boxOrder}
+use Rattle.puzzle.specs.Code.Units.{columnsClear, boxOrder}
 use Rattle.puzzle.proofs.Columns.{reordered-same}
 use Rattle.puzzle.proofs.units.boxes_clear.Statement.{statement}
 use Rattle.puzzle.proofs.units.boxes_clear.Tie as tie

@@ -9,7 +9,7 @@ use borrow.Author.Needs.{needs}
 use borrow.Author.Tests.{not-true, not-false}
 use Rattle.sudoku.specs.Tests.{every}
 use Rattle.sudoku.proofs.Walks.{every-more, every-fails, every-all}
-use Rattle.puzzle.specs.Units.{stepClear, columnsClear}
+use Rattle.puzzle.specs.Code.Units.{stepClear, columnsClear}
 use Rattle.puzzle.proofs.units.columns_clear.Statement.{statement}
 use Rattle.puzzle.proofs.units.columns_clear.Tie as tie
 

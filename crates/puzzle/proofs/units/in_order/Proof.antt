@@ -12,7 +12,7 @@ use lib.ListN.{length, getD, take, length-set}
 use Rattle.sudoku.specs.Tests.{every, listed}
 use Rattle.sudoku.proofs.Walks.{every-at}
 use Rattle.sudoku.proofs.Listed.{fill-more, fill-all}
-use Rattle.puzzle.specs.Units.{reordered}
+use Rattle.puzzle.specs.Code.Units.{reordered}
 use Rattle.puzzle.proofs.units.in_order.Statement.{statement}
 use Rattle.puzzle.proofs.units.in_order.Tie as tie
 

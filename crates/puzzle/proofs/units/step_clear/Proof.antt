@@ -9,7 +9,7 @@ use borrow.Author.Needs.{needs}
 use lib.Dec.{eqb}
 use lib.ListN.{getD}
 use Rattle.sudoku.specs.Tests.{both, either, every}
-use Rattle.puzzle.specs.Units.{stepClear}
+use Rattle.puzzle.specs.Code.Units.{stepClear}
 use Rattle.puzzle.proofs.Columns.{clear-starts, clear-more, clear-all}
 use Rattle.puzzle.proofs.units.step_clear.Statement.{statement}
 use Rattle.puzzle.proofs.units.step_clear.Tie as tie

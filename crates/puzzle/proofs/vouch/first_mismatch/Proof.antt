@@ -8,7 +8,7 @@ use borrow.Author.Needs.{needs}
 use Rattle.puzzle.specs.Refusals.{firstRefused}
 use Rattle.puzzle.proofs.Refusals.{walk-refused, walk-more, walk-all}
 use Rattle.puzzle.specs.declared.Given.{Given}
-use Rattle.puzzle.specs.Givens.{givenIn, givensIn}
+use Rattle.puzzle.specs.Code.GivenBytes.{givenIn, givensIn}
 use Rattle.puzzle.specs.Vouch.{givenMatches, givensMatch}
 use Rattle.puzzle.proofs.GivenBytes.{matchAt, matches-walk}
 use Rattle.puzzle.proofs.vouch.first_mismatch.Statement.{statement}

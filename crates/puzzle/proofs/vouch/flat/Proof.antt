@@ -7,7 +7,7 @@ use borrow.Author.Needs.{needs}
 use lib.ListN.{length, take, length-set}
 use Rattle.sudoku.specs.Tests.{listed}
 use Rattle.sudoku.proofs.Listed.{fill-more, fill-all}
-use Rattle.puzzle.specs.Rows.{entryAt, flat}
+use Rattle.puzzle.specs.Code.Rows.{entryAt, flat}
 use Rattle.puzzle.proofs.vouch.flat.Statement.{statement}
 use Rattle.puzzle.proofs.vouch.flat.Tie as tie
 

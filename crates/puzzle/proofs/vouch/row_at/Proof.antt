@@ -8,7 +8,7 @@ use borrow.Author.Needs.{needs}
 use lib.ListN.{length, getD, take, length-set}
 use Rattle.sudoku.specs.Tests.{listed}
 use Rattle.sudoku.proofs.Listed.{fill-more, fill-all}
-use Rattle.puzzle.specs.Rows.{rowAt}
+use Rattle.puzzle.specs.Code.Rows.{rowAt}
 use Rattle.puzzle.proofs.vouch.row_at.Statement.{statement}
 use Rattle.puzzle.proofs.vouch.row_at.Tie as tie
 

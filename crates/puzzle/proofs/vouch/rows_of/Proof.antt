@@ -7,7 +7,7 @@ use borrow.Author.Needs.{needs}
 use lib.ListN.{length, take, length-set}
 use Rattle.sudoku.specs.Tests.{listed}
 use Rattle.sudoku.proofs.Listed.{fill-more, fill-all}
-use Rattle.puzzle.specs.Rows.{rowAt, rowsOf}
+use Rattle.puzzle.specs.Code.Rows.{rowAt, rowsOf}
 use Rattle.puzzle.proofs.vouch.rows_of.Statement.{statement}
 use Rattle.puzzle.proofs.vouch.rows_of.Tie as tie
 

@@ -12,8 +12,8 @@ use lib.ListN.{length}
 use Rattle.puzzle.specs.declared.Given.{Given}
 use Rattle.puzzle.specs.declared.Refusal.{Refusal}
 use Rattle.puzzle.specs.Refusals.{refusal, firstRefused, orElse}
-use Rattle.puzzle.specs.Givens.{givensIn}
-use Rattle.puzzle.specs.Rows.{rowsOf, flat}
+use Rattle.puzzle.specs.Code.GivenBytes.{givensIn}
+use Rattle.puzzle.specs.Code.Rows.{rowsOf, flat}
 use Rattle.puzzle.specs.Vouch.{nothingLeft, solutionDigit, solutionConflict, givensMatch, vouch}
 use Rattle.puzzle.proofs.Accepted.{if-not}
 use Rattle.puzzle.proofs.Refusals.{refused-if, or-else-by, or-else-passed, or-else-past}

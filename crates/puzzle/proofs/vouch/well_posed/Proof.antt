@@ -5,7 +5,8 @@ use borrow.Author.Tests.{eqb-false, not-true, not-false}
 use borrow.Author.Needs.{needs}
 use Rattle.sudoku.proofs.Walks.{not-is-true, not-is-false}
 use Rattle.puzzle.specs.Refusals.{refusal}
-use Rattle.puzzle.specs.Givens.{givensIn, ascending}
+use Rattle.puzzle.specs.Givens.{ascending}
+use Rattle.puzzle.specs.Code.GivenBytes.{givensIn}
 use Rattle.puzzle.specs.Vouch.{vouch, wellPosed}
 use Rattle.puzzle.proofs.Accepted.{if-not}
 use Rattle.puzzle.proofs.Refusals.{refused-if, or-else-by, or-else-past}

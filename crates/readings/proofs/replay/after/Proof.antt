@@ -9,7 +9,7 @@ use Rattle.journal.specs.declared.Slot.{Slot}
 use Rattle.journal.specs.State.{State, performAgain}
 use Rattle.journal.specs.Slots.{moveOf}
 use Rattle.board.specs.Board.{stateOf}
-use Rattle.play.specs.Parts.{parts}
+use Rattle.play.specs.Code.Parts.{parts}
 use Rattle.readings.specs.Reading.{applySlot, stateAfter}
 use borrow.Author.Needs.{needs}
 use Rattle.readings.proofs.replay.after.Statement.{statement}

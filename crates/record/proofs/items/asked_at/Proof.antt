@@ -5,7 +5,7 @@ use Prim.Native.Nat.{ℕ, _+_}
 use native.Mathlib.Omega.{arith}
 use lib.ListN.{getD}
 use Rattle.journal.specs.Bytes.{two}
-use Rattle.record.specs.Counting.{askedFrom}
+use Rattle.record.specs.Code.Counting.{askedFrom}
 use Rattle.record.proofs.KindBytes.{same-behind}
 use Rattle.record.proofs.items.asked_at.Statement.{statement}
 use Rattle.record.proofs.items.asked_at.Tie as tie

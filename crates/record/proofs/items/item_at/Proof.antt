@@ -3,7 +3,7 @@
 use Prim.Native.Nat.{_+_}
 use mathlib.Core.Path.{_≡_}
 use native.Mathlib.Omega.{arith}
-use Rattle.record.specs.Counting.{itemOf}
+use Rattle.record.specs.Code.Counting.{itemOf}
 use borrow.Author.Needs.{needs}
 use Rattle.record.proofs.items.item_at.Statement.{statement}
 use Rattle.record.proofs.items.item_at.Tie as tie

@@ -2,7 +2,7 @@
 -- Assumes nothing.
 use mathlib.Core.Path.{_∙_}
 use Rattle.journal.specs.Slots.{moveOf}
-use Rattle.record.specs.Counting.{moveAt}
+use Rattle.record.specs.Code.Counting.{moveAt}
 use Rattle.record.proofs.KindBytes.{same-here, same-behind}
 use Rattle.record.proofs.items.move_at.Statement.{statement}
 use Rattle.record.proofs.items.move_at.Tie as tie

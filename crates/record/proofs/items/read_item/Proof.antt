@@ -2,7 +2,7 @@
 -- item whose body ends too late is cut short, any other is what its group says.
 -- Assumes nothing.
 use mathlib.Core.Path.{sym, ap, _∙_}
-use Rattle.record.specs.Counting.{shapeOf}
+use Rattle.record.specs.Code.Counting.{shapeOf}
 use Rattle.record.proofs.KindBytes.{read-past, read-short, read-whole}
 use Rattle.record.proofs.items.read_item.Statement.{statement}
 use Rattle.record.proofs.items.read_item.Tie as tie

@@ -4,7 +4,7 @@ use mathlib.Core.Path.{sym, ap}
 use native.Mathlib.Omega.{arith}
 use Rattle.sudoku.specs.Tests.{pick}
 use Rattle.record.specs.Scan.{byKind}
-use Rattle.record.specs.Counting.{shapeOf}
+use Rattle.record.specs.Code.Counting.{shapeOf}
 use Rattle.record.proofs.KindBytes.{shape-mark, shape-past}
 use Rattle.record.proofs.items.shape.Statement.{statement}
 use Rattle.record.proofs.items.shape.Tie as tie

@@ -5,7 +5,7 @@ use mathlib.Core.Bool.{not}
 use borrow.Author.Tests.{le-leb, lt-leb}
 use Rattle.sudoku.proofs.Walks.{either-left, either-right, either-second}
 use Rattle.journal.specs.Limits.{maxMoves, maxChecks}
-use Rattle.record.specs.Counting.{isOversized}
+use Rattle.record.specs.Code.Counting.{isOversized}
 use Rattle.record.proofs.scan.is_oversized.Statement.{statement}
 use Rattle.record.proofs.scan.is_oversized.Tie as tie
 

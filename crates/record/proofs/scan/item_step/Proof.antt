@@ -2,7 +2,7 @@
 -- Assumes nothing.
 use mathlib.Core.Path.{sym, ap, _∙_}
 use Rattle.record.specs.declared.Item.{Item}
-use Rattle.record.specs.Counting.{itemStep}
+use Rattle.record.specs.Code.Counting.{itemStep}
 use Rattle.record.proofs.scan.item_step.Statement.{statement}
 use Rattle.record.proofs.scan.item_step.Tie as tie
 use borrow.Author.Needs.{needs}

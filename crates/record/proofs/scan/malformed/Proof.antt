@@ -1,7 +1,7 @@
 -- `record::scan::malformed` meets its contract.
 -- Assumes nothing.
 use mathlib.Core.Path.{ap, _∙_}
-use Rattle.record.specs.Counting.{refusedBy, malformedAt}
+use Rattle.record.specs.Code.Counting.{refusedBy, malformedAt}
 use Rattle.record.proofs.scan.malformed.Statement.{statement}
 use Rattle.record.proofs.scan.malformed.Tie as tie
 use borrow.Author.Needs.{needs}

@@ -7,7 +7,7 @@ use Rattle.sudoku.proofs.Walks.{both-true, both-false-left, both-false-right}
 use Rattle.puzzle.specs.Refusals.{refusal}
 use Rattle.puzzle.proofs.Accepted.{if-not}
 use Rattle.puzzle.proofs.Refusals.{refused-if, or-else-by, or-else-past}
-use Rattle.record.specs.Counting.{miscountedBy}
+use Rattle.record.specs.Code.Counting.{miscountedBy}
 use Rattle.record.proofs.scan.miscounted.Statement.{statement}
 use Rattle.record.proofs.scan.miscounted.Tie as tie
 use borrow.Author.Needs.{needs}

@@ -1,7 +1,7 @@
 -- `record::scan::refused` meets its contract.
 -- Assumes nothing.
 use mathlib.Core.Path.{refl}
-use Rattle.record.specs.Counting.{refusedBy}
+use Rattle.record.specs.Code.Counting.{refusedBy}
 use Rattle.record.proofs.scan.refused.Statement.{statement}
 use Rattle.record.proofs.scan.refused.Tie as tie
 

@@ -6,7 +6,7 @@ use Prim.Native.Nat.{_-_}
 use native.Mathlib.Omega.{arith}
 use borrow.Author.Tests.{eq-eqb, ne-eqb}
 use lib.ListN.{length}
-use Rattle.record.specs.Counting.{scanned, scannedOf}
+use Rattle.record.specs.Code.Counting.{scanned, scannedOf}
 use Rattle.record.proofs.Scanning.{left, scanFrom, scan-start, Going, going-room, goes-on, turn-stops, turn-goes-on, ends-early, ends-well}
 use borrow.Author.Needs.{needs}
 use Rattle.record.proofs.scan.scan.Statement.{statement}

@@ -1,7 +1,7 @@
 -- `record::scan::scan_step` meets its contract: what is read at the offset decides.
 -- Assumes nothing.
 use mathlib.Core.Path.{sym, ap, _∙_}
-use Rattle.record.specs.Counting.{readStep, stepOf}
+use Rattle.record.specs.Code.Counting.{readStep, stepOf}
 use Rattle.record.proofs.scan.scan_step.Statement.{statement}
 use Rattle.record.proofs.scan.scan_step.Tie as tie
 use borrow.Author.Needs.{needs}

@@ -11,7 +11,7 @@ use Rattle.sudoku.specs.Grid.{at, rowOf, columnOf}
 use Rattle.sudoku.proofs.Walks.{pick-true, pick-false}
 use Rattle.journal.specs.Bytes.{over}
 use Rattle.journal.proofs.Memory.{over-nil}
-use Rattle.record.specs.Laying.{givenBytes}
+use Rattle.record.specs.Code.Laying.{givenBytes}
 use Rattle.record.proofs.write.lay_given.Statement.{statement}
 use Rattle.record.proofs.write.lay_given.Tie as tie
 use borrow.Author.Needs.{needs}

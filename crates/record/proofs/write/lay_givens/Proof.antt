@@ -5,7 +5,7 @@ use mathlib.Core.Path.{sym, ap, _∙_}
 use native.Mathlib.Omega.{arith}
 use lib.ListN.{length}
 use Rattle.journal.specs.Bytes.{over}
-use Rattle.record.specs.Laying.{givenBytes}
+use Rattle.record.specs.Code.Laying.{givenBytes}
 use Rattle.record.proofs.Laying.{Laying, laying-start, laying-room, laying-more, laying-end, givensLeft, givens-turn, givens-none, givens-all}
 use borrow.Author.Needs.{needs}
 use Rattle.record.proofs.write.lay_givens.Statement.{statement}

@@ -9,7 +9,7 @@ use Rattle.journal.specs.declared.Move.{Move}
 use Rattle.journal.specs.Slots.{moveOf}
 use Rattle.record.specs.declared.Item.the-variants.{Played}
 use Rattle.record.specs.Items.{encode}
-use Rattle.record.specs.Laying.{movesBytes}
+use Rattle.record.specs.Code.Laying.{movesBytes}
 use Rattle.record.proofs.Laying.{itemsLeft, items-turn, items-none, moveIn, moves-left}
 use borrow.Author.Needs.{needs}
 use Rattle.record.proofs.write.moves_length.Statement.{statement}

@@ -3,7 +3,7 @@
 use mathlib.Core.Path.{sym}
 use borrow.Author.Tests.{le-leb}
 use Rattle.sudoku.proofs.Walks.{pick-true}
-use Rattle.undo.specs.Halves.{slotToRedo}
+use Rattle.undo.specs.Code.Halves.{slotToRedo}
 use Rattle.undo.proofs.Parts.{next-standing}
 use borrow.Author.Needs.{needs}
 use Rattle.undo.proofs.asking.slot_to_redo.Statement.{statement}

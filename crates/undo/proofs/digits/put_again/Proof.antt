@@ -1,7 +1,7 @@
 -- `undo::digits::put_again` meets its contract.
 -- Assumes nothing.
 use mathlib.Core.Path.{refl}
-use Rattle.undo.specs.Halves.{digitFound, digitAgain}
+use Rattle.undo.specs.Code.Halves.{digitFound, digitAgain}
 use borrow.Author.Needs.{needs}
 use Rattle.undo.proofs.digits.put_again.Statement.{statement}
 use Rattle.undo.proofs.digits.put_again.Tie as tie

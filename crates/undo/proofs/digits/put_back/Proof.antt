@@ -1,7 +1,7 @@
 -- `undo::digits::put_back` meets its contract.
 -- Assumes nothing.
 use mathlib.Core.Path.{refl}
-use Rattle.undo.specs.Halves.{digitLeft, digitBack}
+use Rattle.undo.specs.Code.Halves.{digitLeft, digitBack}
 use borrow.Author.Needs.{needs}
 use Rattle.undo.proofs.digits.put_back.Statement.{statement}
 use Rattle.undo.proofs.digits.put_back.Tie as tie

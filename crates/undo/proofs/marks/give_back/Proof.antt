@@ -2,7 +2,7 @@
 -- Assumes nothing.
 use mathlib.Core.Path.{refl}
 use Rattle.journal.specs.State.{withNotes}
-use Rattle.undo.specs.Halves.{marksLeft, marksBack}
+use Rattle.undo.specs.Code.Halves.{marksLeft, marksBack}
 use borrow.Author.Needs.{needs}
 use Rattle.undo.proofs.marks.give_back.Statement.{statement}
 use Rattle.undo.proofs.marks.give_back.Tie as tie

@@ -2,7 +2,7 @@
 -- Assumes nothing.
 use mathlib.Core.Path.{refl}
 use Rattle.journal.specs.State.{withNotes}
-use Rattle.undo.specs.Halves.{marksFound, marksAgain}
+use Rattle.undo.specs.Code.Halves.{marksFound, marksAgain}
 use borrow.Author.Needs.{needs}
 use Rattle.undo.proofs.marks.take_again.Statement.{statement}
 use Rattle.undo.proofs.marks.take_again.Tie as tie

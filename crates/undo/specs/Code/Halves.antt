@@ -16,7 +16,7 @@ use Rattle.journal.specs.declared.Move.the-variants.{Place, Erase, WriteMark, S
 use Rattle.journal.specs.State.{State, withNotes, putDigit, writeAt, strikeAt, writeMasked, strikeMasked, takeBack}
 use Rattle.journal.specs.declared.Slot.{Slot}
 use Rattle.journal.specs.Slots.{moveOf}
-use Rattle.journal.specs.InTurn.{lackInTurn, noneMissingInTurn}
+use Rattle.journal.specs.Code.InTurn.{lackInTurn, noneMissingInTurn}
 
 -- the digit before, put back at a cell; a move that changes no digit changes nothing here
 unfoldable pub digitBack : State → ℕ → DigitChange → State

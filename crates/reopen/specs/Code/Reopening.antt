@@ -23,7 +23,7 @@ use Rattle.journal.specs.declared.Asked.{Asked}
 use Rattle.record.specs.declared.Item.the-variants.{Played as PlayedItem}
 use Rattle.record.specs.Items.{encode}
 use Rattle.record.specs.Scan.{partsOfBytes}
-use Rattle.record.specs.Counting.{moveAt, askedFrom}
+use Rattle.record.specs.Code.Counting.{moveAt, askedFrom}
 use Rattle.record.specs.Reopen.{unreadable, settledRecord, replayed}
 
 -- n moves, the first of which stands at an offset

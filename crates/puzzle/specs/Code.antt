@@ -1,0 +1,3 @@
+pub mod Units
+pub mod Rows
+pub mod GivenBytes
