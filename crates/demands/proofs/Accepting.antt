@@ -27,7 +27,7 @@ use Rattle.record.specs.Reopen.{unreadable, replay, toPlay, checksRefusal, sett
 use Rattle.record.proofs.Readable.{Readable, readable}
 use Rattle.demands.specs.Book.{performAll, slotsFrom}
 use Rattle.demands.specs.Opens.{Opens}
-use Rattle.demands.proofs.Opening.{opens-of, lengths-right}
+use Rattle.demands.proofs.Opening.{opens-of, lent-solution, went-on, not-by-length}
 use Rattle.demands.proofs.Plays.{Plays}
 use Rattle.demands.proofs.Reached.{reached-given}
 use Rattle.demands.proofs.Replay.{allStand, replay-fresh, replay-fresh-plays}
@@ -41,33 +41,26 @@ pub record Accepted (bytes solution : List ℕ) : Type 0 where
   pub final : isOn (performAll (opening (partsOfBytes bytes .givens)) (partsOfBytes bytes .moves) .solved) ≡ true → partsOfBytes bytes .undone ≡ 0
   pub asks : Each (Asks (givenCells (partsOfBytes bytes .givens)) solution) (partsOfBytes bytes .checks)
 
--- a refusal that was handed back is none where the answer is accepted
-no-refusal : (r : Refusal) → r ≡ accepted → isAccepted r ≡ false → ⊥
-no-refusal r e p = not-both-ways (isAccepted r) (accepts r e) p
-
--- an outcome by a test of a refusal: where the outcome is accepted, the refusal is none
-went-on : (r : Refusal) (o : Opened) → pick (isAccepted r) o (turnedAway r) .answer .refusal ≡ accepted → isAccepted r ≡ true
-unfolding turnedAway
-went-on r o h =
-    by-test (isAccepted r) (λ t. t)
-    (λ t. absurd (no-refusal r (sym (ap (λ (x : Opened). x .answer .refusal) (pick-false (isAccepted r) o (turnedAway r) t)) ∙ h) t))
-
--- and the outcome is that of what was done next
+-- where an outcome by a test of a refusal is accepted, it is that of what was done next
 then-accepted : (r : Refusal) (o : Opened) → pick (isAccepted r) o (turnedAway r) .answer .refusal ≡ accepted → o .answer .refusal ≡ accepted
 then-accepted r o h =
     sym (ap (λ (x : Opened). x .answer .refusal) (pick-true (isAccepted r) o (turnedAway r) (went-on r o h))) ∙ h
 
-module _ (bytes solution journal checks : List ℕ) (n : length solution ≡ 81) (j : length journal ≡ journalBytes) (c : length checks ≡ checkMemory)
-    (h : reopenOf bytes solution journal checks .answer .refusal ≡ accepted) where
+module _ (bytes solution journal checks : List ℕ) (h : reopenOf bytes solution journal checks .answer .refusal ≡ accepted) where
+  -- 1
+  lengths : lentLengths solution journal checks ≡ true
+  unfolding reopenOf
+  lengths = not-by-length _ _ journal checks h
+
   lent : pick (isAccepted (unreadable bytes solution)) (replayed (partsOfBytes bytes) solution) (turnedAway (unreadable bytes solution)) .answer .refusal ≡ accepted
   unfolding reopenOf
-  lent = sym (ap (λ (x : Opened). x .answer .refusal) (pick-true (lentLengths solution journal checks) _ _ (lengths-right solution journal checks n j c))) ∙ h
+  lent = sym (ap (λ (x : Opened). x .answer .refusal) (pick-true (lentLengths solution journal checks) _ _ lengths)) ∙ h
 
   is-readable : Readable bytes solution
   is-readable = readable bytes solution (clean-unreadable bytes solution (went-on (unreadable bytes solution) (replayed (partsOfBytes bytes) solution) lent))
 
   do-open : Opens (partsOfBytes bytes .givens) solution
-  do-open = opens-of (partsOfBytes bytes .givens) solution n (is-readable .ascend) (is-readable .vouched)
+  do-open = opens-of (partsOfBytes bytes .givens) solution (lent-solution solution journal checks lengths) (is-readable .ascend) (is-readable .vouched)
 
   -- the moves
   was-replayed : replayed (partsOfBytes bytes) solution .answer .refusal ≡ accepted

@@ -1,6 +1,6 @@
--- Demand 3, proved: opening returns the fresh board, every answer is the book's, the
--- board and the memory hold the book, what is written is the book's record and reopens
--- to all of these; and bytes reopen exactly when some list of calls writes them.
+-- Demand 3, proved: givens open exactly when they should, opening returns the fresh board, every answer is the book's,
+-- the board and the memory hold the book, what is written is the book's record, reopens to all
+-- of these and plays on; and bytes reopen exactly when some list of calls writes them.
 -- Assumes nothing.
 use Prim.Native.Nat.{ℕ, _+_, _-_, _≤_}
 use mathlib.Core.Path.{_≡_, refl, sym, ap, subst, _∙_}
@@ -11,9 +11,8 @@ use Rattle.puzzle.specs.declared.Given.{Given}
 use Rattle.puzzle.specs.Refusals.{accepted}
 use Rattle.journal.specs.Limits.{journalBytes, checkMemory, recordBytes}
 use Rattle.journal.specs.Bytes.{over}
-use Rattle.journal.specs.StoredChecks.{judged}
-use Rattle.journal.proofs.Memory.{take-over-end}
-use Rattle.board.specs.Open.{Opened, openedFresh}
+use Rattle.journal.specs.StoredChecks.{judged, storedAll}
+use Rattle.board.specs.Open.{Opened, openedFresh, noMoves, noChecks}
 use Rattle.journal.specs.declared.Asked.{Asked}
 use Rattle.record.specs.Items.{recordOf}
 use Rattle.record.specs.Scan.{partsOfBytes}
@@ -23,40 +22,89 @@ use Rattle.record.proofs.WriteBack.{bytes-record, are-bytes}
 use Rattle.calls.specs.declared.Call.{Call}
 use Rattle.calls.specs.declared.Call.the-variants.{Make, Undo, Redo, Check}
 use Rattle.calls.specs.Session.{Session, after, started}
-use Rattle.demands.specs.Book.{Book, newBook, made, taken, withMoves, step, keep, asked, partsOfBook, recordIn}
+use Rattle.demands.specs.Book.{Book, newBook, made, taken, withMoves, step, keep, asked, partsOfBook, recordIn, slotsIn}
 use Rattle.demands.specs.Opens.{Opens}
-use Rattle.demands.specs.Demand3.{reopenedBook, Kept, AreBytes, Writable, Demand3}
-use Rattle.demands.proofs.Opening.{opened}
+use Rattle.demands.specs.Demand3.{reopenedBook, Writes, Kept, PlaysAs, AreBytes, Writable, Demand3}
+use Rattle.demands.proofs.Opening.{opens-exactly, opened}
 use Rattle.demands.proofs.Refusals.{after-step}
 use Rattle.demands.proofs.Making.{bookOf}
 use Rattle.demands.proofs.Good.{Good, good-new, good-keep}
-use Rattle.demands.proofs.Held.{Held}
+use Rattle.demands.proofs.Held.{Held, starts-with, laid-held}
 use Rattle.demands.proofs.Steps.{sessionOf}
-use Rattle.demands.proofs.Lists.{session-all, session-said, session-left}
-use Rattle.demands.proofs.Writing.{book-short, book-written}
+use Rattle.demands.proofs.Lists.{AgreesAll, agrees-all, fresh-session, fresh-held}
+use Rattle.demands.proofs.Writing.{book-short, book-writes}
 use Rattle.demands.proofs.Reopening.{book-reopens}
 use Rattle.demands.proofs.CallsFor.{callsFor, makes-record}
 use Rattle.demands.proofs.Accepting.{Accepted, was-accepted}
 
--- ---- what the calls leave holds the book
+-- ---- what holds a book, and calls from it
 
-kept-session : (k : Book) (journal checks : List ℕ) → Good k → Held journal checks k → Kept (sessionOf k journal checks) k
+pub kept-session : (k : Book) (journal checks : List ℕ) → Good k → Held journal checks k → Kept (sessionOf k journal checks) k
 kept-session k journal checks g h =
     record {
       board = refl;
       slots = h .slots;
       checks = h .stored;
+      journal-length = h .journalLength;
+      checks-length = h .checksLength;
+      limits = record { moves = g .few; checks = g .fewChecks };
       short = book-short k g;
-      written = book-written k journal checks g h;
+      writes = book-writes k journal checks g h;
       reopens = book-reopens k g;
     }
 
-kept-all : (givens : List Given) (solution : List ℕ) (calls : List Call) → Opens givens solution
-    → Kept (after (started (openedFresh givens solution)) calls) (keep (newBook givens solution) calls)
-kept-all givens solution calls o =
-    subst (λ (s : Session). Kept s (keep (newBook givens solution) calls)) (sym (session-left givens solution calls o))
-    (kept-session (keep (newBook givens solution) calls) (session-all givens solution calls o .journalAfter) (session-all givens solution calls o .checksAfter)
-    (good-keep (newBook givens solution) calls (good-new givens solution o)) (session-all givens solution calls o .held))
+-- any calls from a session that holds a book go as in the book
+pub plays-as : (k : Book) (journal checks : List ℕ) (calls : List Call) → Good k → Held journal checks k → PlaysAs (sessionOf k journal checks) k calls
+plays-as k journal checks calls g h =
+    record {
+      answered = all .said;
+      kept = subst (λ (s : Session). Kept s (keep k calls)) (sym (all .left)) (kept-session (keep k calls) (all .journalAfter) (all .checksAfter) (good-keep k calls g) (all .held));
+    }
+  where
+    all : AgreesAll k journal checks calls
+    all = agrees-all k journal checks calls g h
+
+played : (givens : List Given) (solution : List ℕ) (calls : List Call) → Opens givens solution
+    → PlaysAs (started (openedFresh givens solution)) (newBook givens solution) calls
+played givens solution calls o =
+    subst (λ (s : Session). PlaysAs s (newBook givens solution) calls) (sym (fresh-session givens solution))
+    (plays-as (newBook givens solution) noMoves noChecks calls (good-new givens solution o) (fresh-held givens solution))
+
+-- ---- and from a reopened one
+
+-- no call changes the solution
+taken-solution : (k : Book) (c : Call) → taken k c .solution ≡ k .solution
+unfolding taken withMoves
+taken-solution k (Make m) = refl
+taken-solution k Undo = refl
+taken-solution k Redo = refl
+taken-solution k (Check row column) = refl
+
+step-solution : (k : Book) (c : Call) → step k c .solution ≡ k .solution
+step-solution k c = after-step k c (λ (b : Book). b .solution ≡ k .solution) refl (λ p. taken-solution k c)
+
+keep-solution : (k : Book) (cs : List Call) → keep k cs .solution ≡ k .solution
+unfolding keep
+keep-solution k [] = refl
+keep-solution k (c ∷ cs) = keep-solution (step k c) cs ∙ step-solution k c
+
+same-solution : (givens : List Given) (solution : List ℕ) (cs : List Call) → keep (newBook givens solution) cs .solution ≡ solution
+unfolding newBook
+same-solution givens solution cs = keep-solution (newBook givens solution) cs
+
+reopened-session : (k : Book) → started (reopenedBook k) ≡ sessionOf k (over noMoves 0 (slotsIn k)) (over noChecks 0 (storedAll (k .checks)))
+unfolding started reopenedBook
+reopened-session k = refl
+
+plays-on : (k : Book) (solution journal checks : List ℕ) (calls : List Call) → Good k → solution ≡ k .solution
+    → length journal ≡ journalBytes → length checks ≡ checkMemory → PlaysAs (started (reopenOf (recordIn k) solution journal checks)) k calls
+plays-on k solution journal checks calls g e j c =
+    subst (λ (s : Session). PlaysAs s k calls)
+    (sym
+    (ap (λ (l : List ℕ). started (reopenOf (recordIn k) l journal checks)) e
+    ∙ ap started (book-reopens k g journal checks j c)
+    ∙ reopened-session k))
+    (plays-as k (over noMoves 0 (slotsIn k)) (over noChecks 0 (storedAll (k .checks))) calls g (laid-held k g))
 
 -- ---- bytes that reopen are written by some calls
 
@@ -104,34 +152,13 @@ module _ (bytes solution : List ℕ) (are : AreBytes bytes) (a : Accepted bytes 
         givens = partsOfBytes bytes .givens;
         opens = a .opens;
         calls = theirs;
+        limits = λ n. played (partsOfBytes bytes .givens) solution (take n theirs) (a .opens) .kept .limits;
         writes =
-            λ output e.
-            kept-all (partsOfBytes bytes .givens) solution theirs (a .opens) .written output e
-            ∙ ap (λ (l : List ℕ). wrote accepted (length l) (over output 0 l)) their-record;
+            subst (λ (l : List ℕ). Writes (after (started (openedFresh (partsOfBytes bytes .givens) solution)) theirs) l) their-record
+            (played (partsOfBytes bytes .givens) solution theirs (a .opens) .kept .writes);
       }
 
 -- ---- bytes that some calls write reopen
-
--- no call changes the solution
-taken-solution : (k : Book) (c : Call) → taken k c .solution ≡ k .solution
-unfolding taken withMoves
-taken-solution k (Make m) = refl
-taken-solution k Undo = refl
-taken-solution k Redo = refl
-taken-solution k (Check row column) = refl
-
-step-solution : (k : Book) (c : Call) → step k c .solution ≡ k .solution
-step-solution k c = after-step k c (λ (b : Book). b .solution ≡ k .solution) refl (λ p. taken-solution k c)
-
-keep-solution : (k : Book) (cs : List Call) → keep k cs .solution ≡ k .solution
-unfolding keep
-keep-solution k [] = refl
-keep-solution k (c ∷ cs) = keep-solution (step k c) cs ∙ step-solution k c
-
--- bytes laid over the start of memory are what it then starts with
-laid : (memory bytes : List ℕ) → length bytes ≤ length memory → take (length bytes) (over memory 0 bytes) ≡ bytes
-laid memory bytes h =
-    ap (λ (n : ℕ). take n (over memory 0 bytes)) {x = length bytes} {y = 0 + length bytes} (omega arith) ∙ take-over-end memory 0 bytes (omega arith)
 
 module _ (bytes solution : List ℕ) (w : Writable bytes solution) where
   unfoldable book : Book
@@ -139,32 +166,31 @@ module _ (bytes solution : List ℕ) (w : Writable bytes solution) where
 
   book-kept : Kept (after (started (openedFresh (w .givens) solution)) (w .calls)) book
   unfolding book
-  book-kept = kept-all (w .givens) solution (w .calls) (w .opens)
+  book-kept = played (w .givens) solution (w .calls) (w .opens) .kept
 
-  -- an output of zeros, and what stands in it after both
+  -- an output of zeros that is long enough for both, and what stands in it after both
   blank : List ℕ
-  blank = replicate recordBytes 0
+  blank = replicate (length bytes + recordBytes) 0
 
-  blank-length : length blank ≡ recordBytes
+  blank-length : length blank ≡ length bytes + recordBytes
   unfolding blank
-  blank-length = length-replicate {A = ℕ} recordBytes 0
+  blank-length = length-replicate {A = ℕ} (length bytes + recordBytes) 0
 
   both-written : wrote accepted (length bytes) (over blank 0 bytes) ≡ wrote accepted (length (recordIn book)) (over blank 0 (recordIn book))
-  both-written = sym (w .writes blank blank-length) ∙ book-kept .written blank blank-length
+  both-written =
+      sym (w .writes .written blank (omega (arith, blank-length)))
+      ∙ book-kept .writes .written blank (omega (arith, blank-length, book-kept .short))
 
   same-bytes : bytes ≡ recordIn book
   same-bytes =
-      sym (laid blank bytes (omega (arith, same-length, book-kept .short, blank-length)))
-      ∙ (λ i. take (same-length i) (both-written i .output))
-      ∙ laid blank (recordIn book) (omega (arith, book-kept .short, blank-length))
-    where
-      same-length : length bytes ≡ length (recordIn book)
-      same-length = ap (λ (x : Wrote). x .answer .length) both-written
+      sym (starts-with blank bytes (omega (arith, blank-length)))
+      ∙ (λ i. take (ap (λ (x : Wrote). x .answer .length) both-written i) (both-written i .output))
+      ∙ starts-with blank (recordIn book) (omega (arith, book-kept .short, blank-length))
 
   do-reopen : (journal checks : List ℕ) → length journal ≡ journalBytes → length checks ≡ checkMemory → reopenOf bytes solution journal checks .answer .refusal ≡ accepted
-  unfolding reopenedBook book newBook
+  unfolding reopenedBook book
   do-reopen journal checks j c =
-      (λ i. reopenOf (same-bytes i) (sym (keep-solution (newBook (w .givens) solution) (w .calls)) i) journal checks .answer .refusal)
+      (λ i. reopenOf (same-bytes i) (sym (same-solution (w .givens) solution (w .calls)) i) journal checks .answer .refusal)
       ∙ ap (λ (x : Opened). x .answer .refusal) (book-kept .reopens journal checks j c)
 
 -- ---- demand 3
@@ -172,12 +198,16 @@ module _ (bytes solution : List ℕ) (w : Writable bytes solution) where
 pub demand3 : Demand3
 demand3 =
     record {
+      opens = opens-exactly;
       opened = opened;
-      answered = λ givens solution calls o. session-said givens solution calls o;
-      kept = kept-all;
+      played = played;
+      played-on =
+          λ givens solution calls more journal checks o j c.
+          plays-on (keep (newBook givens solution) calls) solution journal checks more (good-keep (newBook givens solution) calls (good-new givens solution o))
+          (sym (same-solution givens solution calls)) j c;
       exactly =
-          λ bytes solution journal checks are n j c. (
-            (λ h. are-written bytes solution are (was-accepted bytes solution journal checks n j c h)),
+          λ bytes solution journal checks are j c. (
+            (λ h. are-written bytes solution are (was-accepted bytes solution journal checks h)),
             (λ w. do-reopen bytes solution w journal checks j c),
           );
     }

@@ -6,7 +6,7 @@ use mathlib.Core.Path.{_≡_, refl, sym, ap, _∙_}
 use mathlib.Core.Bool.{Bool, true, not}
 use mathlib.Core.List.{List, [], _∷_, _++_, append-assoc}
 use native.Mathlib.Omega.{arith}
-use lib.ListN.{length, take, drop, length-append}
+use lib.ListN.{length, take, drop, length-append, length-replicate}
 use lib.Seq.{take-at, take-take, length-take-le}
 use lib.Dec.{eqb}
 use borrow.Author.Tests.{le-leb, ne-eqb}
@@ -25,8 +25,9 @@ use Rattle.journal.specs.State.{State, opening, digitAt, noteAt}
 use Rattle.journal.specs.Slots.{slotFor, bytesOf, slotAt}
 use Rattle.journal.specs.StoredChecks.{Stored, storedBytes, storedAll}
 use Rattle.journal.proofs.Moves.{Fit}
-use Rattle.journal.proofs.Memory.{length-over, take-over-end}
+use Rattle.journal.proofs.Memory.{length-over, take-over-end, length-stored}
 use Rattle.board.specs.Board.{boardOf, isBoard, lentTests, mayStand, digitValue, noteValue, solutionValue}
+use Rattle.board.specs.Open.{noMoves, noChecks}
 use Rattle.calls.specs.declared.Call.the-variants.{Make, Check}
 use Rattle.demands.specs.Book.{Book, made, performAll, stateIn, slotsFrom, slotsIn, taken, withMoves, checkIn}
 use Rattle.demands.specs.Demand3.{boardIn}
@@ -149,3 +150,41 @@ module _ (journal checks : List ℕ) (k : Book) (h : Held journal checks k) wher
 
       counted : checkBytes * length (k .checks ++ (checkIn k row column ∷ [])) ≡ checkBytes * length (k .checks) + checkBytes
       counted = omega (arith, length-append (k .checks) (checkIn k row column ∷ []))
+
+-- ---- memory of zeros with a book's moves and checks laid over it, as reopening leaves it
+
+-- bytes laid over the start of memory are what it then starts with
+pub starts-with : (memory bytes : List ℕ) → length bytes ≤ length memory → take (length bytes) (over memory 0 bytes) ≡ bytes
+starts-with memory bytes h =
+    ap (λ (n : ℕ). take n (over memory 0 bytes)) {x = length bytes} {y = 0 + length bytes} (omega arith) ∙ take-over-end memory 0 bytes (omega arith)
+
+module _ (k : Book) (g : Good k) where
+  slots-fit : 0 + length (slotsIn k) ≤ length noMoves
+  unfolding noMoves slotsIn made
+  slots-fit = omega (arith, g .few, slots-length (opening (k .givens)) (k .moves), length-replicate {A = ℕ} journalBytes 0)
+
+  checks-fit : 0 + length (storedAll (k .checks)) ≤ length noChecks
+  unfolding noChecks
+  checks-fit = omega (arith, g .fewChecks, length-stored (k .checks), length-replicate {A = ℕ} checkMemory 0)
+
+  pub laid-slots : take (slotBytes * made k) (over noMoves 0 (slotsIn k)) ≡ slotsIn k
+  unfolding slotsIn made
+  laid-slots =
+      ap (λ (n : ℕ). take n (over noMoves 0 (slotsIn k))) (sym (slots-length (opening (k .givens)) (k .moves)))
+      ∙ starts-with noMoves (slotsIn k) (omega (arith, slots-fit))
+
+  pub laid-journal : length (over noMoves 0 (slotsIn k)) ≡ journalBytes
+  unfolding noMoves
+  laid-journal = length-over noMoves 0 (slotsIn k) slots-fit ∙ length-replicate {A = ℕ} journalBytes 0
+
+  pub laid-held : Held (over noMoves 0 (slotsIn k)) (over noChecks 0 (storedAll (k .checks))) k
+  unfolding noChecks
+  laid-held =
+      record {
+        slots = laid-slots;
+        journalLength = laid-journal;
+        stored =
+            ap (λ (n : ℕ). take n (over noChecks 0 (storedAll (k .checks)))) (sym (length-stored (k .checks)))
+            ∙ starts-with noChecks (storedAll (k .checks)) (omega (arith, checks-fit));
+        checksLength = length-over noChecks 0 (storedAll (k .checks)) checks-fit ∙ length-replicate {A = ℕ} checkMemory 0;
+      }

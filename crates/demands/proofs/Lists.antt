@@ -49,11 +49,11 @@ agrees-all k journal checks (c ∷ cs) g h =
 -- ---- from the fresh board
 
 module _ (givens : List Given) (solution : List ℕ) where
-  fresh-session : started (openedFresh givens solution) ≡ sessionOf (newBook givens solution) noMoves noChecks
+  pub fresh-session : started (openedFresh givens solution) ≡ sessionOf (newBook givens solution) noMoves noChecks
   unfolding started openedFresh fresh boardIn stateIn newBook made performAll
   fresh-session = refl
 
-  fresh-held : Held noMoves noChecks (newBook givens solution)
+  pub fresh-held : Held noMoves noChecks (newBook givens solution)
   unfolding newBook made slotsIn slotsFrom storedAll noMoves noChecks
   fresh-held =
       record { slots = refl; journalLength = length-replicate {A = ℕ} journalBytes 0; stored = refl; checksLength = length-replicate {A = ℕ} checkMemory 0 }

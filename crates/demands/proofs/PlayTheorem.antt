@@ -21,8 +21,8 @@ play-theorem =
           record {
             answered =
                 ap (λ (x : Ran). x .answers) e
-                ∙ ap (λ (l : List Said). over answers 0 (answersBytes l)) (demand3 .answered givens solution calls o);
-            kept = subst (λ (x : Ran). Kept (x .left) (keep (newBook givens solution) calls)) (sym e) (demand3 .kept givens solution calls o);
+                ∙ ap (λ (l : List Said). over answers 0 (answersBytes l)) (demand3 .played givens solution calls o .answered);
+            kept = subst (λ (x : Ran). Kept (x .left) (keep (newBook givens solution) calls)) (sym e) (demand3 .played givens solution calls o .kept);
           };
       every-list = decoded-encoded;
     }

@@ -42,7 +42,7 @@ use Rattle.demands.proofs.Opening.{opens-ascending, opens-vouched, leng
 use Rattle.demands.proofs.Plays.{slots-length}
 use Rattle.demands.proofs.Reached.{reached-given}
 use Rattle.demands.proofs.Good.{Admitted, Good}
-use Rattle.demands.proofs.Held.{Held}
+use Rattle.demands.proofs.Held.{Held, laid-slots, laid-journal}
 use Rattle.demands.proofs.Replay.{allStand, replay-fresh, back-all}
 use Rattle.demands.proofs.Asks.{Asks, admits-all}
 
@@ -134,22 +134,9 @@ module _ (k : Book) (g : Good k) where
         admitted = tt;
       }
 
-  slots-fit : 0 + length (slotsIn k) ≤ length noMoves
-  unfolding noMoves slotsIn made
-  slots-fit = omega (arith, g .few, slots-length (opening (k .givens)) (k .moves), length-replicate {A = ℕ} journalBytes 0)
-
   full-held : Held (over noMoves 0 (slotsIn k)) noChecks full
-  unfolding full made slotsIn storedAll noMoves noChecks
-  full-held =
-      record {
-        slots =
-            ap (λ (n : ℕ). take n (over noMoves 0 (slotsIn k))) {x = slotBytes * made k} {y = 0 + length (slotsIn k)}
-            (omega (arith, slots-length (opening (k .givens)) (k .moves)))
-            ∙ take-over-end noMoves 0 (slotsIn k) slots-fit;
-        journalLength = length-over noMoves 0 (slotsIn k) slots-fit ∙ length-replicate {A = ℕ} journalBytes 0;
-        stored = refl;
-        checksLength = length-replicate {A = ℕ} checkMemory 0;
-      }
+  unfolding full made slotsIn storedAll noChecks
+  full-held = record { slots = laid-slots k g; journalLength = laid-journal k g; stored = refl; checksLength = length-replicate {A = ℕ} checkMemory 0 }
 
   full-board : allStand (k .solution) last (made k) ≡ boardIn full
   unfolding allStand boardIn full stateIn made last

@@ -1,21 +1,23 @@
--- A board that holds what a book holds, with memory that does, writes the book's
--- record, whatever the output held; and a record has at most 5,955 bytes.
+-- A board that holds what a book holds, with memory that does, writes the book's record into every output that is
+-- long enough, whatever it held; a shorter one is refused by 34 and stays; and a record has at most 5,955 bytes.
 -- Assumes nothing.
-use Prim.Native.Nat.{ℕ, _-_, _≤_}
+use Prim.Native.Nat.{ℕ, _-_, _≤_, _<_}
 use mathlib.Core.Path.{_≡_, refl, sym, ap, _∙_}
 use mathlib.Core.Bool.{Bool, true}
 use mathlib.Core.List.{List, [], map}
 use lib.Dec.{eqb}
 use native.Mathlib.Omega.{arith}
 use lib.ListN.{length, take, length-map}
-use borrow.Author.Tests.{eq-eqb, le-ltb}
-use Rattle.sudoku.proofs.Walks.{both-true, first-none, pick-true}
+use borrow.Author.Tests.{eq-eqb, le-ltb, lt-ltb}
+use Rattle.sudoku.proofs.Walks.{both-true, first-none, pick-true, pick-false}
 use Rattle.sudoku.proofs.Each.{Each, each-to}
 use Rattle.sudoku.specs.Tests.{both}
 use Rattle.sudoku.specs.Grid.{cellOf}
 use Rattle.puzzle.specs.Givens.{givenCells}
-use Rattle.puzzle.specs.Refusals.{refusal, accepted}
-use Rattle.puzzle.proofs.Accepted.{accepts, if-not, or-else-of}
+use Rattle.puzzle.specs.declared.Refusal.{Refusal}
+use Rattle.puzzle.specs.Refusals.{refusal, accepted, isAccepted}
+use Rattle.puzzle.proofs.Accepted.{accepts, if-not, or-else-next, or-else-of}
+use Rattle.puzzle.proofs.Refusals.{refused-if}
 use Rattle.journal.specs.Limits.{journalBytes, checkMemory, recordBytes}
 use Rattle.journal.specs.Bytes.{over}
 use Rattle.journal.specs.State.{opening, digitAt}
@@ -28,7 +30,7 @@ use Rattle.record.proofs.Givens.{givens-kept}
 use Rattle.record.proofs.Lengths.{record-short}
 use Rattle.record.proofs.Held.{StoredFits, CheckSound, asked-held, checks-sound}
 use Rattle.demands.specs.Book.{Book, made, stateIn, slotsIn, asked, partsOfBook, recordIn}
-use Rattle.demands.specs.Demand3.{boardIn, writeSession}
+use Rattle.demands.specs.Demand3.{boardIn, writeSession, Writes}
 use Rattle.demands.proofs.Opening.{opens-grid, opens-rising, opening-given, opening-fit}
 use Rattle.demands.proofs.Slots.{journal-moves, journal-sound}
 use Rattle.demands.proofs.Reached.{digits-kept}
@@ -82,21 +84,43 @@ module _ (k : Book) (journal checks : List ℕ) (g : Good k) (h : Held journal c
       or-else-of _ _ (accepts _ (ap (λ (n : ℕ). refusal n 0 0) (lent-passed k g fits e [] ∙ first-none)))
       (journal-sound journal (opening (k .givens)) (k .moves) (h .slots) (stateIn k) (opening-fit (k .givens) (k .solution) (g .opens)) (g .plays) (sym same-given))
 
-  write-accepted : (output : List ℕ) → length output ≡ recordBytes → writeRefusal (boardIn k) journal checks output ≡ accepted
-  unfolding writeRefusal unwritable boardIn boardOf stateOf made opening stateIn recordIn slotsIn
-  write-accepted output e =
+  record-same : length (recordOf (partsOf (boardIn k) journal checks)) ≡ length (recordIn k)
+  unfolding recordIn
+  record-same = ap (λ (p : Parts). length (recordOf p)) same-parts
+
+  -- 1, 2 and 14 refuse nothing
+  writable : unwritable (boardIn k) journal checks ≡ accepted
+  unfolding unwritable boardIn boardOf stateOf made opening stateIn slotsIn
+  writable =
       let lent = journal-accepted (both (eqb (length journal) journalBytes) (eqb (length checks) checkMemory))
       (both-true _ _ (eq-eqb (length journal) journalBytes (h .journalLength)) (eq-eqb (length checks) checkMemory (h .checksLength))) in
       let stored = checks-sound checks (k .checks) (length (k .checks)) refl checks-fit (h .stored) (stateIn k)
       (each-to (Admitted (k .givens) (k .solution)) (CheckSound (stateIn k)) check-sound (k .checks) (g .admitted)) in
-      or-else-of _ _ (accepts _ (or-else-of _ _ (accepts _ lent) stored))
-      (if-not _ (refusal 34 0 0)
-      (le-ltb (length output) (length (recordOf (partsOf (boardIn k) journal checks)))
-      (omega (arith, book-short k g, ap (λ (p : Parts). length (recordOf p)) same-parts))))
+      or-else-of _ _ (accepts _ lent) stored
 
-  pub book-written : (output : List ℕ) → length output ≡ recordBytes
+  written : (output : List ℕ) → length (recordIn k) ≤ length output
       → writeSession (sessionOf k journal checks) output ≡ wrote accepted (length (recordIn k)) (over output 0 (recordIn k))
-  unfolding writeSession writeOf recordIn
-  book-written output e =
-      pick-true _ _ _ (accepts _ (write-accepted output e))
+  unfolding writeSession writeOf writeRefusal recordIn
+  written output e =
+      pick-true _ _ _
+      (accepts _
+      (or-else-of _ _ (accepts _ writable)
+      (if-not _ (refusal 34 0 0)
+      (le-ltb (length output) (length (recordOf (partsOf (boardIn k) journal checks))) (omega (arith, e, record-same))))))
       ∙ ap (λ (p : Parts). wrote accepted (length (recordOf p)) (over output 0 (recordOf p))) same-parts
+
+  refused-short : (output : List ℕ) → length output < length (recordIn k) → writeRefusal (boardIn k) journal checks output ≡ refusal 34 0 0
+  unfolding writeRefusal
+  refused-short output u =
+      or-else-next _ _ (accepts _ writable)
+      ∙ refused-if _ (refusal 34 0 0)
+      (lt-ltb (length output) (length (recordOf (partsOf (boardIn k) journal checks))) (omega (arith, u, record-same)))
+
+  too-short : (output : List ℕ) → length output < length (recordIn k)
+      → writeSession (sessionOf k journal checks) output ≡ wrote (refusal 34 0 0) 0 output
+  unfolding writeSession writeOf isAccepted
+  too-short output u =
+      pick-false _ _ _ (ap isAccepted (refused-short output u)) ∙ ap (λ (r : Refusal). wrote r 0 output) (refused-short output u)
+
+  pub book-writes : Writes (sessionOf k journal checks) (recordIn k)
+  book-writes = record { written = written; too-short = too-short }
