@@ -24,3 +24,4 @@ pub mod Demand3
 pub mod Solved
 pub mod PlayTheorem
 pub mod Readings
+pub mod Undo

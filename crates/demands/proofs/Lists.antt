@@ -1,6 +1,6 @@
 -- Lists of calls: what each call answers is what the book says, and what they leave holds the book after them.
 -- Assumes nothing.
-use mathlib.Core.Path.{_≡_, refl, ap, _∙_}
+use mathlib.Core.Path.{_≡_, refl, sym, ap, subst, _∙_}
 use mathlib.Core.List.{List, [], _∷_}
 use Prim.Native.Nat.{ℕ}
 use lib.ListN.{length-replicate}
@@ -13,8 +13,8 @@ use Rattle.calls.specs.declared.Call.{Call}
 use Rattle.calls.specs.Session.{Session, Said, after, answers, started}
 use Rattle.demands.specs.Book.{Book, newBook, made, performAll, stateIn, step, says, keep, saysAll, slotsFrom, slotsIn}
 use Rattle.demands.specs.Opens.{Opens}
-use Rattle.demands.specs.Demand3.{boardIn}
-use Rattle.demands.proofs.Good.{Good, good-new, good-step}
+use Rattle.demands.specs.Demand3.{boardIn, Reached}
+use Rattle.demands.proofs.Good.{Good, good-new, good-step, good-keep}
 use Rattle.demands.proofs.Held.{Held}
 use Rattle.demands.proofs.Steps.{sessionOf, Agrees, agrees}
 
@@ -68,3 +68,14 @@ module _ (givens : List Given) (solution : List ℕ) where
       → after (started (openedFresh givens solution)) cs
       ≡ sessionOf (keep (newBook givens solution) cs) (session-all cs o .journalAfter) (session-all cs o .checksAfter)
   session-left cs o = ap (λ (s : Session). after s cs) fresh-session ∙ session-all cs o .left
+
+-- ---- every session that calls reach
+
+-- what holds of every session that holds a book holds of it
+pub of-book : (s : Session) → Reached s → (P : Session → Type 0)
+    → ((k : Book) (journal checks : List ℕ) → Good k → Held journal checks k → P (sessionOf k journal checks)) → P s
+of-book s r P all =
+    subst P (λ i. record { board = sym (r .kept .board) i; journal = s .journal; checks = s .checks })
+    (all (keep (newBook (r .givens) (r .solution)) (r .calls)) (s .journal) (s .checks)
+    (good-keep (newBook (r .givens) (r .solution)) (r .calls) (good-new (r .givens) (r .solution) (r .opens)))
+    (record { slots = r .kept .slots; journalLength = r .kept .journal-length; stored = r .kept .checks; checksLength = r .kept .checks-length }))

@@ -108,7 +108,7 @@ module _ (k : Book) (journal checks : List ℕ) (g : Good k) (h : Held journal c
   play-number m = lent-passed k g (eqb (length journal) journalBytes) (eq-eqb (length journal) journalBytes (h .journalLength)) _ ∙ sym (refused-make k m)
 
   -- the state one move on
-  made-state : (m : Move) → stateIn (taken k (Make m)) ≡ perform (stateIn k) m
+  pub made-state : (m : Move) → stateIn (taken k (Make m)) ≡ perform (stateIn k) m
   unfolding stateIn taken withMoves made performAll
   made-state m =
       ap (λ (l : List Move). performAll (opening (k .givens)) l)

@@ -5,3 +5,4 @@ pub mod Solved
 pub mod Positions
 pub mod PlayTheorem
 pub mod Readings
+pub mod Undo
