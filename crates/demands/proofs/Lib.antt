@@ -6,6 +6,7 @@ pub mod Opening
 pub mod Computing
 pub mod FullJournal
 pub mod Positions
+pub mod Layouts
 pub mod Reached
 pub mod OneLeft
 pub mod Good

@@ -2,7 +2,8 @@ pub mod Book
 pub mod Opens
 pub mod Demand3
 pub mod Solved
+pub mod Undo
 pub mod Positions
 pub mod PlayTheorem
 pub mod Readings
-pub mod Undo
+pub mod Layouts
