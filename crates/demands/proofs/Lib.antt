@@ -26,3 +26,4 @@ pub mod Solved
 pub mod PlayTheorem
 pub mod Readings
 pub mod Undo
+pub mod Order

@@ -7,3 +7,4 @@ pub mod Positions
 pub mod PlayTheorem
 pub mod Readings
 pub mod Layouts
+pub mod Order
