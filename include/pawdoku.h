@@ -10,9 +10,11 @@
  * names memory that can be read (and written, where it is not const) for the length of the call, and that memory
  * lent to be written overlaps no other memory lent to the same call. An empty slice may be null.
  *
- * A refused call changes nothing: the board comes back as it went in, byte for byte, and so does all lent memory,
- * with one exception. Opening and reopening refused by anything but PAWDOKU_WRONG_LENGTH leave the journal and the
- * check memory zero, and hand back the board with every field 0, for any refusal.
+ * A refused call changes nothing: every field of the board comes back as it went in (two bytes of padding in front of
+ * `made` are not kept), and every byte of lent memory stays, with one exception. Opening and reopening refused by
+ * anything but PAWDOKU_WRONG_LENGTH leave the journal and the check memory zero, and hand back the board with every
+ * field 0, for any refusal. All else that an answer has is 0 beside a refusal: verdict, length, offset, yes or no,
+ * digits left, every field of a cell's answer and of a reading; only `place` and `inner` say more of the refusal.
  * Where several refusals apply, the one with the lowest number is given.
  *
  * Rows, columns and digits count from 1. Cells count from 1 to 81, row by row. Digit 0 means none.
@@ -303,12 +305,15 @@ pawdoku_yes_no pawdoku_can_undo(pawdoku_board board);
 pawdoku_yes_no pawdoku_can_redo(pawdoku_board board);
 pawdoku_left pawdoku_digits_left(pawdoku_board board, uint8_t digit);
 
-/* Runs a list of calls, four bytes each: PAWDOKU_CALL_.., row, column, digit (0 where a call has none). Writes four
- * bytes for each into the answers: number, place (two bytes, low first), verdict. As many calls are run as there are
- * whole groups of four in both. A list is a chain of the functions above: each call is made on the board and memory
- * that the last one left, and answered as it is by itself, by 1 where the memory that it needs has another length and
- * by 2 where the board is none. Bytes that encode no call are answered by PAWDOKU_NO_CALL and change nothing. The list
- * itself is never refused. */
+/* Runs a list of calls, four bytes each: PAWDOKU_CALL_.., row, column, digit. Bytes that a call does not use (digit for
+ * an erase and a check; row, column and digit for undo and redo) are not looked at. Writes four bytes for each into the
+ * answers: number, place (two bytes, low first), verdict. As many calls are run as there are whole groups of four in
+ * both; answer bytes beyond the last answer stay. A list is a chain of the functions above: each call is made on the
+ * board and memory that the last one left, refused or not, and answered as it is by itself. A group's number is the
+ * first of these that applies: PAWDOKU_NO_CALL where its first byte encodes no call, which changes nothing and looks
+ * at nothing else; 1 where the memory that this call is lent (the check memory for a check, the journal for any other)
+ * has another length, whatever the other memory is; 2 where the board is none; then the call's other numbers, lowest
+ * first. The list itself is never refused: the answer's refusal is 0, its board is what the last call left. */
 pawdoku_answer pawdoku_play(pawdoku_board board, uint8_t *journal, size_t journal_length,
                             uint8_t *checks, size_t checks_length,
                             const uint8_t *calls, size_t calls_length,

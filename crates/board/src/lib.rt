@@ -1,5 +1,5 @@
-// The board (board.rs, board/cell.rs, board/check.rs and
-// board/error.rs of the original): one puzzle as it is being played.
+// The board (of the original's board.rs the value and `open`; of board/cell.rs what
+// a cell answers): one puzzle as it is being played, its test, and its opening.
 use puzzle::Refusal;
 
 pub mod cell;

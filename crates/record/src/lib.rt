@@ -1,5 +1,5 @@
-// The record (board/record.rs of the original): a board written
-// down whole as bytes, and reopened from what was written.
+// The record (board/record.rs of the original): a board written down whole as bytes, and these bytes
+// scanned and read back into items. Reopening them is defined here (specs/Reopen) and done in crate reopen.
 use journal::MAX_CHECKS;
 use journal::MAX_MOVES;
 use journal::Move;
