@@ -3,19 +3,18 @@
 -- Assumes nothing.
 use Prim.Native.Nat.{ℕ}
 use mathlib.Core.Path.{_≡_, refl, sym, ap, subst, _∙_}
-use mathlib.Core.Bool.{true, false, not}
+use mathlib.Core.Bool.{true, not}
 use mathlib.Core.List.{List}
 use lib.Dec.{eqb}
 use lib.ListN.{length}
 use borrow.Author.Tests.{eqb-true}
 use Rattle.sudoku.specs.Tests.{pick, both}
-use Rattle.sudoku.proofs.Walks.{by-test, not-both-ways, both-true, pick-true, pick-false}
+use Rattle.sudoku.proofs.Walks.{by-test, not-both-ways, both-true, pick-true}
 use Rattle.sudoku.proofs.Each.{Each}
 use Rattle.puzzle.specs.declared.Refusal.{Refusal}
 use Rattle.puzzle.specs.Givens.{isOn, givenCells}
 use Rattle.puzzle.specs.Refusals.{refusal, accepted, isAccepted, refusedIf, orElse}
-use Rattle.puzzle.proofs.Accepted.{accepts, if-passed, or-else-left, or-else-right}
-use Rattle.journal.specs.Limits.{journalBytes, checkMemory}
+use Rattle.puzzle.proofs.Accepted.{if-passed, or-else-left, or-else-right}
 use Rattle.journal.specs.Bytes.{over}
 use Rattle.journal.specs.State.{opening}
 use Rattle.board.specs.declared.Board.{Board}

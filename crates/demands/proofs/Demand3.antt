@@ -2,7 +2,7 @@
 -- the board and the memory hold the book, what is written is the book's record, reopens to all
 -- of these and plays on; and bytes reopen exactly when some list of calls writes them.
 -- Assumes nothing.
-use Prim.Native.Nat.{ℕ, _+_, _-_, _≤_}
+use Prim.Native.Nat.{ℕ, _+_, _-_}
 use mathlib.Core.Path.{_≡_, refl, sym, ap, subst, _∙_}
 use mathlib.Core.List.{List, [], _∷_, map}
 use native.Mathlib.Omega.{arith}

@@ -1,14 +1,14 @@
 -- A book's record reopens to the book: its board, the slots of its
 -- moves, its checks, zero beyond; whatever the lent memory held.
 -- Assumes nothing.
-use Prim.Native.Nat.{ℕ, _+_, _-_, _*_, _≤_, _<_}
+use Prim.Native.Nat.{ℕ, _-_, _≤_, _<_}
 use mathlib.Core.Path.{_≡_, refl, sym, ap, subst, _∙_}
 use mathlib.Core.Bool.{true, false, not}
 use mathlib.Core.List.{List, [], _∷_, map}
 use native.Mathlib.Nat.{le-refl}
 use native.Mathlib.Omega.{arith}
 use lib.Dec.{eqb}
-use lib.ListN.{length, take, length-replicate, length-map}
+use lib.ListN.{length, length-replicate, length-map}
 use lib.Seq.{take-length}
 use borrow.Author.Tests.{eq-eqb}
 use Rattle.sudoku.specs.Tests.{pick, both}
@@ -20,12 +20,11 @@ use Rattle.puzzle.specs.Refusals.{refusal, accepted, isAccepted}
 use Rattle.puzzle.proofs.Posed.{Vouched}
 use Rattle.puzzle.proofs.Accepted.{accepts, if-not, or-else-of}
 use Rattle.journal.specs.declared.Move.{Move}
-use Rattle.journal.specs.Limits.{slotBytes, journalBytes, checkMemory}
+use Rattle.journal.specs.Limits.{journalBytes, checkMemory}
 use Rattle.journal.specs.Counts.{counts}
 use Rattle.journal.specs.Bytes.{over}
 use Rattle.journal.specs.State.{State, opening}
 use Rattle.journal.specs.StoredChecks.{Stored, storedAll, judged}
-use Rattle.journal.proofs.Memory.{length-over, take-over-end}
 use Rattle.board.specs.declared.Board.{Board}
 use Rattle.board.specs.Board.{stateOf, countsOf, boardOf, fresh}
 use Rattle.board.specs.Open.{answer, noMoves, noChecks, turnedAway}
@@ -39,7 +38,6 @@ use Rattle.record.proofs.Readable.{InTime, Sized, Counted, Readable, readable-o
 use Rattle.demands.specs.Book.{Book, made, performAll, stateIn, withMoves, slotsIn, asked, partsOfBook, recordIn}
 use Rattle.demands.specs.Demand3.{boardIn, reopenedBook}
 use Rattle.demands.proofs.Opening.{opens-ascending, opens-vouched, lengths-right}
-use Rattle.demands.proofs.Plays.{slots-length}
 use Rattle.demands.proofs.Reached.{reached-given}
 use Rattle.demands.proofs.Good.{Admitted, Good}
 use Rattle.demands.proofs.Held.{Held, laid-slots, laid-journal}

@@ -3,7 +3,7 @@
 -- Assumes nothing.
 use Prim.Native.Nat.{ℕ, _+_, _-_}
 use mathlib.Core.Path.{_≡_, refl, sym, ap, subst, _∙_}
-use mathlib.Core.Bool.{Bool, true, false}
+use mathlib.Core.Bool.{true, false}
 use mathlib.Core.List.{List, [], _∷_, _++_, map}
 use native.Mathlib.Omega.{arith}
 use lib.Dec.{eqb}
@@ -12,7 +12,7 @@ use lib.Seq.{take-at, length-take-le}
 use borrow.Author.Tests.{ne-eqb}
 use Rattle.sudoku.specs.Tests.{both}
 use Rattle.sudoku.specs.Grid.{isCell, at}
-use Rattle.sudoku.proofs.Walks.{by-test, refused, no-if, first-none, passed, not-both-ways}
+use Rattle.sudoku.proofs.Walks.{by-test, refused, no-if, first-none, passed}
 use Rattle.note.specs.Note.{contains}
 use Rattle.puzzle.specs.Refusals.{refusal}
 use Rattle.puzzle.specs.Givens.{isOn}
@@ -24,14 +24,14 @@ use Rattle.journal.proofs.Pointwise.{place-digit, place-mark, erase-digit, eras
 use Rattle.board.specs.declared.Board.{Board}
 use Rattle.board.specs.Board.{boardOf}
 use Rattle.calls.specs.declared.Call.{Call}
-use Rattle.calls.specs.declared.Call.the-variants.{Make, Undo, Redo, Check}
+use Rattle.calls.specs.declared.Call.the-variants.{Make, Undo, Redo}
 use Rattle.calls.specs.Session.{Session, Said, called, callOf, after, answers}
-use Rattle.demands.specs.Book.{Book, newBook, made, performAll, stateIn, refusedBy, taken, withMoves, verdict, step, says, keep, saysAll}
+use Rattle.demands.specs.Book.{Book, made, performAll, stateIn, refusedBy, taken, withMoves, verdict, step, says, keep, saysAll}
 use Rattle.demands.specs.Demand3.{boardIn}
 use Rattle.demands.specs.Undo.{digitAfter, marked, markAfter, yes, no, Does, AsItWas, TakenBack, Final, Cancel, UndoTheorem}
 use Rattle.demands.proofs.Refusals.{passes-unsolved, passes-allowed, refused-undo, refused-redo, step-taken, step-refused}
 use Rattle.demands.proofs.Reached.{on-the-way}
-use Rattle.demands.proofs.Good.{Good, good-taken, good-fit, last-solved, make-passes, undo-unsolved, undo-some, redo-some}
+use Rattle.demands.proofs.Good.{Good, good-taken, good-fit, last-solved, make-passes, undo-unsolved, undo-some}
 use Rattle.demands.proofs.Held.{Held}
 use Rattle.demands.proofs.Steps.{sessionOf, made-state}
 use Rattle.demands.proofs.Lists.{AgreesAll, agrees-all, of-book}

@@ -6,7 +6,7 @@
 use Prim.Native.Nat.{ℕ, _+_}
 use mathlib.Core.Path.{_≡_}
 use mathlib.Core.Bool.{Bool, true, false, not}
-use mathlib.Core.List.{List, [], _∷_}
+use mathlib.Core.List.{[], _∷_}
 use lib.Dec.{eqb}
 use Rattle.sudoku.specs.Tests.{pick, both, either}
 use Rattle.sudoku.specs.Grid.{cellOf, isCell, arePeers, at}

@@ -15,7 +15,7 @@ ghost use Prim.Native.Nat.{_*_};
 ghost use Rattle.sudoku.specs.Tests.{bit};
 ghost use Rattle.journal.specs.Limits.{checkBytes};
 ghost use Rattle.journal.specs.Bytes.{laid, two as twoBytes};
-ghost use Rattle.journal.specs.StoredChecks.{stored as storedOf, isRight, judged, storedBytes, soundStored, isSoundCheck};
+ghost use Rattle.journal.specs.StoredChecks.{stored as storedOf, isRight, judged, storedBytes, verdictByte, askedAt, soundStored, isSoundCheck};
 
 // The verdict as a byte: 1 for right, else 0.
 pub fn verdict(right: bool) -> u8
@@ -66,6 +66,38 @@ fn two(low: u8, second: u8) -> usize
     wide(low) + 256 * wide(second)
 }
 
+// What stored check n asked, and its verdict byte. What lies past the end of the memory reads as 0.
+pub fn check_at(checks: &[u8], n: usize) -> Asked
+    ensures { λ r. ⌜ r ≡ askedAt (now (checks .entry)) n ⌝ }
+{
+    let index = index_of(n);
+    if index > checks.len() / CHECK_BYTES {
+        return Asked {
+            standing: 0,
+            row: 0,
+            column: 0,
+            digit: 0,
+        };
+    }
+    let start = CHECK_BYTES * index;
+    Asked {
+        standing: two(byte_at(checks, start), byte_at(checks, start + 1)),
+        row: byte_at(checks, start + 2),
+        column: byte_at(checks, start + 3),
+        digit: byte_at(checks, start + 4),
+    }
+}
+
+pub fn verdict_at(checks: &[u8], n: usize) -> u8
+    ensures { λ r. ⌜ r ≡ verdictByte (now (checks .entry)) n ⌝ }
+{
+    let index = index_of(n);
+    if index > checks.len() / CHECK_BYTES {
+        return 0;
+    }
+    byte_at(checks, CHECK_BYTES * index + 5)
+}
+
 // Whether the fields of a check and its verdict byte lie in their ranges, and its cell is on the grid and no given's.
 fn sound_fields(given: &[u8; 81], asked: Asked, verdict: u8) -> bool
     ensures { λ r. ⌜ r ≡ soundStored (now (given .entry)) asked verdict ⌝ }
@@ -85,20 +117,9 @@ fn sound_fields(given: &[u8; 81], asked: Asked, verdict: u8) -> bool
     verdict <= 1
 }
 
-// Whether stored check n is sound. What lies past the end of the memory reads as 0, which is no cell's row.
+// Whether stored check n is sound.
 pub fn is_sound_check(given: &[u8; 81], checks: &[u8], n: usize) -> bool
     ensures { λ r. ⌜ r ≡ isSoundCheck (now (given .entry)) (now (checks .entry)) n ⌝ }
 {
-    let index = index_of(n);
-    if index > checks.len() / CHECK_BYTES {
-        return false;
-    }
-    let start = CHECK_BYTES * index;
-    let asked = Asked {
-        standing: two(byte_at(checks, start), byte_at(checks, start + 1)),
-        row: byte_at(checks, start + 2),
-        column: byte_at(checks, start + 3),
-        digit: byte_at(checks, start + 4),
-    };
-    sound_fields(given, asked, byte_at(checks, start + 5))
+    sound_fields(given, check_at(checks, n), verdict_at(checks, n))
 }

@@ -7,7 +7,7 @@ use mathlib.Core.List.{List, [], _∷_, _++_, map}
 use native.Mathlib.Nat.{sub-eq-zero-of-le}
 use native.Mathlib.Numerals.{add-one}
 use native.Mathlib.Omega.{arith}
-use lib.ListN.{length, getD, length-append}
+use lib.ListN.{length, length-append}
 use Rattle.puzzle.specs.Givens.{isGiven}
 use Rattle.sudoku.specs.Tests.{pick, keep, bit, count, listed}
 use Rattle.sudoku.specs.Grid.{at}
@@ -18,8 +18,8 @@ use Rattle.journal.specs.Limits.{checkItemBytes, givenItemBytes, undoneItemByte
 use Rattle.journal.specs.declared.Move.{Move}
 use Rattle.journal.specs.Bytes.{low, second, over}
 use Rattle.journal.specs.Slots.{slotAt, moveOf}
-use Rattle.journal.specs.StoredChecks.{checkStart, storedAt, askedAt}
-use Rattle.journal.proofs.Memory.{low-two, second-two, over-nil, over-join, length-over}
+use Rattle.journal.specs.StoredChecks.{askedAt}
+use Rattle.journal.proofs.Memory.{over-nil, over-join, length-over}
 use Rattle.board.specs.declared.Board.{Board}
 use Rattle.board.specs.Board.{stateOf}
 use Rattle.record.specs.declared.Item.{Item}
@@ -155,22 +155,6 @@ module _ (b : Board) (journal checks : List ℕ) where
       )
 
 -- ---- one stored check
-
-module _ (checks : List ℕ) (n start : ℕ) (here : start ≡ checkStart n) (small : (i : ℕ) → getD checks i 0 < 256) where
-  pub check-bytes : (a b c d e : ℕ) → a ≡ getD checks start 0 → b ≡ getD checks (start + 1) 0 → c ≡ getD checks (start + 2) 0
-      → d ≡ getD checks (start + 3) 0 → e ≡ getD checks (start + 4) 0 → 7 ∷ a ∷ b ∷ c ∷ d ∷ e ∷ [] ≡ encode (checkItem (askedAt checks n))
-  unfolding encode checkItem storedAt
-  check-bytes a b c d e p q r s t =
-      let x = getD checks (checkStart n) 0 in
-      let y = getD checks (checkStart n + 1) 0 in
-      (λ j.
-      7
-      ∷ (p ∙ (λ i. getD checks (here i) 0) ∙ sym (low-two x y (small (checkStart n)) (small (checkStart n + 1)))) j
-      ∷ (q ∙ (λ i. getD checks (here i + 1) 0) ∙ sym (second-two x y (small (checkStart n)) (small (checkStart n + 1)))) j
-      ∷ (r ∙ (λ i. getD checks (here i + 2) 0)) j
-      ∷ (s ∙ (λ i. getD checks (here i + 3) 0)) j
-      ∷ (t ∙ (λ i. getD checks (here i + 4) 0)) j
-      ∷ [])
 
 pub six-laid : (l : List ℕ) (at a b c d e f : ℕ) → at + 6 ≤ length l
     → over (over l at (a ∷ b ∷ c ∷ [])) (at + 3) (d ∷ e ∷ f ∷ []) ≡ over l at (a ∷ b ∷ c ∷ d ∷ e ∷ f ∷ [])

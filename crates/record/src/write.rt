@@ -9,7 +9,6 @@ use crate::Written;
 use board::Board;
 use board::value::lent_number;
 use journal::CHECK;
-use journal::CHECK_BYTES;
 use journal::CHECK_MEMORY;
 use journal::ERASE;
 use journal::GIVEN;
@@ -19,6 +18,7 @@ use journal::PLACE;
 use journal::STRIKE_MARK;
 use journal::UNDONE;
 use journal::WRITE_MARK;
+use journal::checks::check_at;
 use journal::checks::is_sound_check;
 use journal::slots::is_given;
 use journal::slots::move_of;
@@ -27,9 +27,7 @@ use play::sound::first_unsound;
 use puzzle::Refusal;
 use puzzle::answer::accepted;
 use puzzle::answer::refusal;
-use puzzle::byte_at;
 use puzzle::digit_at;
-use puzzle::index_of;
 use sudoku::CELLS;
 use sudoku::column_of;
 use sudoku::row_of;
@@ -257,14 +255,15 @@ fn lay_check(checks: &[u8], n: usize, output: &mut [u8], at: usize) -> usize
     requires { ⌜ (n ≤ maxChecks) × (at + 6 ≤ length (now output)) ⌝ }
     ensures { λ r. ⌜ (r ≡ at + 6) × (now (output .exit) ≡ over (now (output .entry)) at (encode (checkItem (askedAt (now (checks .entry)) n)))) ⌝ }
 {
-    let start = CHECK_BYTES * index_of(n);
-    let low = byte_at(checks, start);
-    let second = byte_at(checks, start + 1);
-    let row = byte_at(checks, start + 2);
-    let column = byte_at(checks, start + 3);
-    let digit = byte_at(checks, start + 4);
-    let body = lay_three(output, at, CHECK, low, second);
-    lay_three(output, body, row, column, digit)
+    let asked = check_at(checks, n);
+    let body = lay_three(
+        output,
+        at,
+        CHECK,
+        (asked.standing % 256) as u8,
+        (asked.standing / 256 % 256) as u8,
+    );
+    lay_three(output, body, asked.row, asked.column, asked.digit)
 }
 
 // The items of the stored checks.

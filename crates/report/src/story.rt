@@ -1,9 +1,10 @@
 // What a record that reopens tells: its puzzle, every move, every check, and the board that it leaves.
 use board::Board;
-use journal::CHECK_BYTES;
 use journal::CHECK_MEMORY;
 use journal::JOURNAL_BYTES;
 use journal::MAX_CHECKS;
+use journal::checks::check_at;
+use journal::checks::verdict_at;
 use journal::slots::slot_at;
 use print::counted;
 use print::deeds::made;
@@ -12,10 +13,8 @@ use print::drawing::position;
 use print::number;
 use print::say;
 use print::words::explain;
-use puzzle::byte_at;
 use readings::read::reading;
 use readings::replay::after;
-use sudoku::wide;
 
 // The givens alone, as the board stood before the first move.
 fn puzzle(board: Board, journal: &[u8; JOURNAL_BYTES]) {
@@ -33,23 +32,21 @@ fn moves_made(journal: &[u8; JOURNAL_BYTES], count: usize, standing: usize) {
     }
 }
 
-// The check behind i others, as it is stored: standing (two bytes, low first), row, column, digit, verdict.
+// The check behind i others, as it is stored.
 fn check_stored(checks: &[u8; CHECK_MEMORY], i: usize) {
     if i >= MAX_CHECKS {
         return;
     }
-    let start = CHECK_BYTES * i;
-    let low = wide(byte_at(checks, start));
-    let high = wide(byte_at(checks, start + 1));
+    let asked = check_at(checks, i + 1);
     say(b"check ");
     number(i + 1);
     say(b": ");
     verdict(
-        low + 256 * high,
-        byte_at(checks, start + 2),
-        byte_at(checks, start + 3),
-        byte_at(checks, start + 4),
-        byte_at(checks, start + 5) == 1,
+        asked.standing,
+        asked.row,
+        asked.column,
+        asked.digit,
+        verdict_at(checks, i + 1) == 1,
     );
 }
 
