@@ -1,38 +1,41 @@
 -- The theorem of readings, proved: slots 1 to n of a board that holds a
--- book, applied to its givens, lead to the book's state after n moves.
+-- book, applied to its givens, lead to the book's state after n moves; slot
+-- n is that of the book's move n; and beyond made a reading is refused by 35.
 -- Assumes nothing.
 use Prim.Native.Nat.{ℕ, zero, suc, _+_, _-_, _≤_, _<_}
-use mathlib.Core.Path.{_≡_, sym, ap, subst, _∙_}
-use mathlib.Core.Bool.{true}
+use mathlib.Core.Path.{_≡_, refl, sym, ap, subst, _∙_}
+use mathlib.Core.Bool.{true, not}
 use mathlib.Core.List.{List}
 use native.Mathlib.Numerals.{add-one}
 use native.Mathlib.Omega.{arith}
 use lib.ListN.{length, getD, take, replicate}
 use lib.Seq.{ext-getD}
-use lib.Dec.{eqb}
+use lib.Dec.{leb, ltb, eqb}
 use borrow.Author.Tests.{eq-eqb}
-use Rattle.sudoku.specs.Tests.{pick, run, listed}
+use Rattle.sudoku.specs.Tests.{pick, both, run, listed}
 use Rattle.sudoku.specs.Grid.{isCell, at}
 use Rattle.sudoku.proofs.Grid.{is-cell}
 use Rattle.sudoku.proofs.Listed.{length-listed, listed-at}
 use Rattle.sudoku.proofs.Walks.{by-test, pick-true, pick-false, run-last}
 use Rattle.puzzle.specs.declared.Refusal.{Refusal}
-use Rattle.puzzle.specs.Refusals.{refusal, accepted}
+use Rattle.puzzle.specs.Refusals.{refusal, accepted, isAccepted}
 use Rattle.puzzle.specs.Givens.{digitsOf, isGiven}
-use Rattle.puzzle.proofs.Accepted.{accepts, if-not, or-else-of}
+use Rattle.puzzle.proofs.Accepted.{accepts, if-not, or-else-next, or-else-of}
+use Rattle.puzzle.proofs.Refusals.{refused-if}
 use Rattle.journal.specs.declared.Move.{Move}
 use Rattle.journal.specs.Limits.{journalBytes}
 use Rattle.journal.specs.State.{State, opening, digitAt, perform, performAgain, struck}
 use Rattle.journal.specs.Slots.{slotFor, slotAt, moveOf}
 use Rattle.journal.proofs.Moves.{performed-again, move-kept}
 use Rattle.board.specs.Board.{stateOf, boardOf}
+use Rattle.play.specs.Play.{journalRefusal}
 use Rattle.readings.specs.declared.Reading.{Reading}
-use Rattle.readings.specs.Reading.{openingOf, applySlot, stateAfter, readingRefusal, reading, readingOf}
-use Rattle.readings.proofs.Refused.{was-made, is-read}
+use Rattle.readings.specs.Reading.{openingOf, applySlot, stateAfter, readingRefusal, reading, noReading, readingOf}
+use Rattle.readings.proofs.Refused.{none-read, beyond-made, was-made, not-read, is-read}
 use Rattle.calls.specs.Session.{Session}
 use Rattle.demands.specs.Book.{Book, newBook, made, performAll, stateIn, keep}
 use Rattle.demands.specs.Demand3.{boardIn}
-use Rattle.demands.specs.Readings.{stateAt, readSession, Reads, ReadsItself, ReadingsTheorem}
+use Rattle.demands.specs.Readings.{moveAt, stateAt, readingIn, readSession, Reads, ReadsItself, ReadingsTheorem}
 use Rattle.demands.proofs.Plays.{moveNo, plays-take, plays-next, perform-next}
 use Rattle.demands.proofs.Refusals.{passes-allowed}
 use Rattle.demands.proofs.Opening.{opening-digit, opening-free, opening-fit}
@@ -119,42 +122,73 @@ module _ (k : Book) (journal checks : List ℕ) (g : Good k) (h : Held journal c
 
   -- ---- readings
 
+  -- 1, 2 and 14 do not apply
+  memory-sound : isAccepted (journalRefusal (eqb (length journal) journalBytes) (boardIn k) journal) ≡ true
+  memory-sound =
+      accepts _ (journal-accepted k journal checks g h (eqb (length journal) journalBytes) (eq-eqb (length journal) journalBytes (h .journalLength)))
+
   module _ (n : ℕ) (l : 1 ≤ n) (u : n ≤ made k) where
     not-refused : readingRefusal (boardIn k) journal n ≡ accepted
     unfolding readingRefusal boardIn boardOf made
-    not-refused =
-        or-else-of _ _
-        (accepts _ (journal-accepted k journal checks g h (eqb (length journal) journalBytes) (eq-eqb (length journal) journalBytes (h .journalLength))))
-        (if-not _ (refusal 35 0 0) (was-made n (length (k .moves)) (λ p. omega (arith, p, l)) u))
+    not-refused = or-else-of _ _ memory-sound (if-not _ (refusal 35 0 0) (was-made n (length (k .moves)) (λ p. omega (arith, p, l)) u))
 
     is-reading : readingOf (boardIn k) journal n ≡ reading (boardIn k) journal n
     is-reading = sym (is-read (boardIn k) journal n (ap (λ (r : Refusal). r .number) not-refused))
 
-    reads : Reads (sessionOf k journal checks) k n
-    unfolding readSession reading
+    -- slot n is that of move n
+    its-slot : slotAt journal n ≡ slotFor (stateAt k (n - 1)) (moveAt k n)
+    unfolding stateAt moveAt moveNo
+    its-slot =
+        ap (λ (i : ℕ). slotAt journal i) {x = n} {y = n - 1 + 1} (omega arith) ∙ held-slot journal checks k h (n - 1) (omega arith)
+
+    reads : readSession (sessionOf k journal checks) n ≡ readingIn k n
+    unfolding readSession reading readingIn slotFor boardIn boardOf
     reads =
+        is-reading
+        ∙ (λ i.
         record {
-          taken = ap (λ (r : Reading). r .refusal) is-reading;
-          digits = ap (λ (r : Reading). r .digits) is-reading ∙ ap (λ (s : State). s .digits) (slots-perform n u);
-          notes = ap (λ (r : Reading). r .notes) is-reading ∙ ap (λ (s : State). s .notes) (slots-perform n u);
-        }
+          refusal = accepted;
+          kind = its-slot i .kind;
+          row = its-slot i .row;
+          column = its-slot i .column;
+          digit = its-slot i .digit;
+          undone = ltb (k .standing) n;
+          index = n;
+          digits = slots-perform n u i .digits;
+          notes = slots-perform n u i .notes;
+        })
+
+  module _ (n : ℕ) (t : not (both (leb 1 n) (leb n (made k))) ≡ true) where
+    refused-35 : readingRefusal (boardIn k) journal n ≡ refusal 35 0 0
+    unfolding readingRefusal boardIn boardOf
+    refused-35 = or-else-next _ _ memory-sound ∙ refused-if _ (refusal 35 0 0) t
+
+    unread : readSession (sessionOf k journal checks) n ≡ noReading (refusal 35 0 0)
+    unfolding readSession
+    unread =
+        sym (not-read (boardIn k) journal n (λ e. omega (arith, e, ap (λ (r : Refusal). r .number) refused-35))) ∙ ap noReading refused-35
+
+  reads-all : Reads (sessionOf k journal checks) k
+  reads-all =
+      record { every = reads; none = unread 0 (none-read 0 (made k) refl); beyond = λ n u. unread n (beyond-made n (made k) u) }
 
   reads-itself : 1 ≤ boardIn k .standing → ReadsItself (sessionOf k journal checks)
-  unfolding readSession stateAt boardIn boardOf stateIn
+  unfolding readSession readingIn stateAt boardIn boardOf stateIn
   reads-itself l =
-      let r : Reads (sessionOf k journal checks) k (k .standing) = reads (k .standing) l (g .within) in
-      record { digits = r .digits; notes = r .notes }
+      let last : readSession (sessionOf k journal checks) (k .standing) ≡ readingIn k (k .standing) = reads (k .standing) l (g .within) in
+      record { digits = ap (λ (r : Reading). r .digits) last; notes = ap (λ (r : Reading). r .notes) last }
 
 -- ---- from the opening
 
 pub readings : ReadingsTheorem
 readings =
     record {
-      every =
-          λ givens solution calls o n l u.
-          subst (λ (s : Session). Reads s (keep (newBook givens solution) calls) n) (sym (session-left givens solution calls o))
-          (reads (keep (newBook givens solution) calls) (session-all givens solution calls o .journalAfter) (session-all givens solution calls o .checksAfter)
-          (good-keep (newBook givens solution) calls (good-new givens solution o)) (session-all givens solution calls o .held) n l u);
+      read =
+          λ givens solution calls o.
+          subst (λ (s : Session). Reads s (keep (newBook givens solution) calls)) (sym (session-left givens solution calls o))
+          (reads-all (keep (newBook givens solution) calls) (session-all givens solution calls o .journalAfter)
+          (session-all givens solution calls o .checksAfter) (good-keep (newBook givens solution) calls (good-new givens solution o))
+          (session-all givens solution calls o .held));
       standing =
           λ givens solution calls o.
           subst (λ (s : Session). 1 ≤ s .board .standing → ReadsItself s) (sym (session-left givens solution calls o))

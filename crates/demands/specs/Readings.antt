@@ -1,34 +1,58 @@
--- Readings on a board played from its opening, the statement: every move that was made
--- is read, and its digits and notes are those of the book after that move and no later
--- one; the reading of the last standing move has the board's own digits and notes.
+-- Readings on a board played from its opening, the statement: every move that was made is read, and
+-- its reading is the book's: kind, target, digit, whether undone, and digits and notes after that move
+-- and no later one; for 0 and for a number above made there is no reading, but the refusal 35; and the
+-- reading of the last standing move has the board's own digits and notes.
 -- The proof stands elsewhere. Assumes nothing.
-use Prim.Native.Nat.{ℕ, _≤_}
+use Prim.Native.Nat.{ℕ, _-_, _≤_, _<_}
 use mathlib.Core.Path.{_≡_}
 use mathlib.Core.List.{List}
-use lib.ListN.{take}
+use lib.Dec.{ltb}
+use lib.ListN.{getD, take}
 use Rattle.puzzle.specs.declared.Given.{Given}
-use Rattle.puzzle.specs.Refusals.{accepted}
-use Rattle.journal.specs.State.{State, opening}
+use Rattle.puzzle.specs.Refusals.{refusal, accepted}
+use Rattle.journal.specs.declared.Move.{Move}
+use Rattle.journal.specs.declared.Move.the-variants.{Erase}
+use Rattle.journal.specs.State.{State, opening, kindOf, rowIn, columnIn, digitIn}
 use Rattle.board.specs.Open.{openedFresh}
 use Rattle.readings.specs.declared.Reading.{Reading}
-use Rattle.readings.specs.Reading.{readingOf}
+use Rattle.readings.specs.Reading.{noReading, readingOf}
 use Rattle.calls.specs.declared.Call.{Call}
 use Rattle.calls.specs.Session.{Session, after, started}
 use Rattle.demands.specs.Book.{Book, newBook, made, performAll, keep}
 use Rattle.demands.specs.Opens.{Opens}
 
+-- move n of the book, n from 1 to made
+unfoldable pub moveAt : Book → ℕ → Move
+moveAt b n = getD (b .moves) (n - 1) (Erase 0 0)
+
 -- the book's state after its first n moves, whether they stand or not
 unfoldable pub stateAt : Book → ℕ → State
 stateAt b n = performAll (opening (b .givens)) (take n (b .moves))
 
+-- for move n: kind, target, digit, whether undone (n above standing), its index,
+-- and digits and notes after moves 1 to n are performed on the givens and empty notes
+unfoldable pub readingIn : Book → ℕ → Reading
+readingIn b n =
+    record {
+      refusal = accepted;
+      kind = kindOf (moveAt b n);
+      row = rowIn (moveAt b n);
+      column = columnIn (moveAt b n);
+      digit = digitIn (moveAt b n);
+      undone = ltb (b .standing) n;
+      index = n;
+      digits = stateAt b n .digits;
+      notes = stateAt b n .notes;
+    }
+
 unfoldable pub readSession : Session → ℕ → Reading
 readSession s n = readingOf (s .board) (s .journal) n
 
--- the reading of move n is the book's
-pub record Reads (s : Session) (b : Book) (n : ℕ) : Type 0 where
-  pub taken : readSession s n .refusal ≡ accepted
-  pub digits : readSession s n .digits ≡ stateAt b n .digits
-  pub notes : readSession s n .notes ≡ stateAt b n .notes
+-- what is read of a session that holds a book, for every n
+pub record Reads (s : Session) (b : Book) : Type 0 where
+  pub every : (n : ℕ) → 1 ≤ n → n ≤ made b → readSession s n ≡ readingIn b n
+  pub none : readSession s 0 ≡ noReading (refusal 35 0 0)
+  pub beyond : (n : ℕ) → made b < n → readSession s n ≡ noReading (refusal 35 0 0)
 
 -- the reading of the last standing move is the board as it stands
 pub record ReadsItself (s : Session) : Type 0 where
@@ -36,13 +60,10 @@ pub record ReadsItself (s : Session) : Type 0 where
   pub notes : readSession s (s .board .standing) .notes ≡ s .board .notes
 
 pub record ReadingsTheorem : Type 0 where
-  pub every :
+  pub read :
       (givens : List Given) (solution : List ℕ) (calls : List Call)
       → Opens givens solution
-      → (n : ℕ)
-      → 1 ≤ n
-      → n ≤ made (keep (newBook givens solution) calls)
-      → Reads (after (started (openedFresh givens solution)) calls) (keep (newBook givens solution) calls) n
+      → Reads (after (started (openedFresh givens solution)) calls) (keep (newBook givens solution) calls)
   pub standing :
       (givens : List Given) (solution : List ℕ) (calls : List Call)
       → Opens givens solution
