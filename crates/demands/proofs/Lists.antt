@@ -12,8 +12,7 @@ use Rattle.board.specs.Open.{openedFresh, noMoves, noChecks}
 use Rattle.calls.specs.declared.Call.{Call}
 use Rattle.calls.specs.Session.{Session, Said, after, answers, started}
 use Rattle.demands.specs.Book.{Book, newBook, made, performAll, stateIn, step, says, keep, saysAll, slotsFrom, slotsIn}
-use Rattle.demands.specs.Opens.{Opens}
-use Rattle.demands.specs.Demand3.{boardIn, Reached}
+use Rattle.demands.specs.Demand3.{boardIn, Reached, bookOf}
 use Rattle.demands.proofs.Good.{Good, good-new, good-step, good-keep}
 use Rattle.demands.proofs.Held.{Held}
 use Rattle.demands.proofs.Steps.{sessionOf, Agrees, agrees}
@@ -58,24 +57,15 @@ module _ (givens : List Given) (solution : List ℕ) where
   fresh-held =
       record { slots = refl; journalLength = length-replicate {A = ℕ} journalBytes 0; stored = refl; checksLength = length-replicate {A = ℕ} checkMemory 0 }
 
-  pub session-all : (cs : List Call) → Opens givens solution → AgreesAll (newBook givens solution) noMoves noChecks cs
-  session-all cs o = agrees-all (newBook givens solution) noMoves noChecks cs (good-new givens solution o) fresh-held
-
-  pub session-said : (cs : List Call) → Opens givens solution → answers (started (openedFresh givens solution)) cs ≡ saysAll (newBook givens solution) cs
-  session-said cs o = ap (λ (s : Session). answers s cs) fresh-session ∙ session-all cs o .said
-
-  pub session-left : (cs : List Call) (o : Opens givens solution)
-      → after (started (openedFresh givens solution)) cs
-      ≡ sessionOf (keep (newBook givens solution) cs) (session-all cs o .journalAfter) (session-all cs o .checksAfter)
-  session-left cs o = ap (λ (s : Session). after s cs) fresh-session ∙ session-all cs o .left
-
 -- ---- every session that calls reach
 
--- what holds of every session that holds a book holds of it
-pub of-book : (s : Session) → Reached s → (P : Session → Type 0)
-    → ((k : Book) (journal checks : List ℕ) → Good k → Held journal checks k → P (sessionOf k journal checks)) → P s
+-- what holds of every session that holds a book, and of the book, holds of it and of its own
+pub of-book : (s : Session) (r : Reached s) (P : Session → Book → Type 0)
+    → ((k : Book) (journal checks : List ℕ) → Good k → Held journal checks k → P (sessionOf k journal checks) k) → P s (bookOf s r)
+unfolding bookOf
 of-book s r P all =
-    subst P (λ i. record { board = sym (r .kept .board) i; journal = s .journal; checks = s .checks })
+    subst (λ (x : Session). P x (keep (newBook (r .givens) (r .solution)) (r .calls)))
+    (λ i. record { board = sym (r .kept .board) i; journal = s .journal; checks = s .checks })
     (all (keep (newBook (r .givens) (r .solution)) (r .calls)) (s .journal) (s .checks)
     (good-keep (newBook (r .givens) (r .solution)) (r .calls) (good-new (r .givens) (r .solution) (r .opens)))
     (record { slots = r .kept .slots; journalLength = r .kept .journal-length; stored = r .kept .checks; checksLength = r .kept .checks-length }))

@@ -3,7 +3,7 @@
 -- n is that of the book's move n; and beyond made a reading is refused by 35.
 -- Assumes nothing.
 use Prim.Native.Nat.{ℕ, zero, suc, _+_, _-_, _≤_, _<_}
-use mathlib.Core.Path.{_≡_, refl, sym, ap, subst, _∙_}
+use mathlib.Core.Path.{_≡_, refl, sym, ap, _∙_}
 use mathlib.Core.Bool.{true, not}
 use mathlib.Core.List.{List}
 use native.Mathlib.Numerals.{add-one}
@@ -33,17 +33,17 @@ use Rattle.readings.specs.declared.Reading.{Reading}
 use Rattle.readings.specs.Reading.{openingOf, applySlot, stateAfter, readingRefusal, reading, noReading, readingOf}
 use Rattle.readings.proofs.Refused.{none-read, beyond-made, was-made, not-read, is-read}
 use Rattle.calls.specs.Session.{Session}
-use Rattle.demands.specs.Book.{Book, newBook, made, performAll, stateIn, keep}
+use Rattle.demands.specs.Book.{Book, made, performAll, stateIn}
 use Rattle.demands.specs.Demand3.{boardIn}
 use Rattle.demands.specs.Readings.{moveAt, stateAt, readingIn, readSession, Reads, ReadsItself, ReadingsTheorem}
 use Rattle.demands.proofs.Plays.{moveNo, plays-take, plays-next, perform-next}
 use Rattle.demands.proofs.Refusals.{passes-allowed}
 use Rattle.demands.proofs.Opening.{opening-digit, opening-free, opening-fit}
 use Rattle.demands.proofs.Reached.{reached-fit, reached-digit}
-use Rattle.demands.proofs.Good.{Good, good-new, good-keep, standing-plays, good-given, good-is-given}
+use Rattle.demands.proofs.Good.{Good, standing-plays, good-given, good-is-given}
 use Rattle.demands.proofs.Held.{Held, held-slot}
 use Rattle.demands.proofs.Steps.{sessionOf}
-use Rattle.demands.proofs.Lists.{session-all, session-left}
+use Rattle.demands.proofs.Lists.{of-book}
 use Rattle.demands.proofs.Writing.{journal-accepted}
 
 -- a list of 81 entries is what a function lists, where the two agree at every cell
@@ -178,21 +178,13 @@ module _ (k : Book) (journal checks : List ℕ) (g : Good k) (h : Held journal c
       let last : readSession (sessionOf k journal checks) (k .standing) ≡ readingIn k (k .standing) = reads (k .standing) l (g .within) in
       record { digits = ap (λ (r : Reading). r .digits) last; notes = ap (λ (r : Reading). r .notes) last }
 
--- ---- from the opening
+-- ---- every session that calls reach
 
 pub readings : ReadingsTheorem
 readings =
     record {
-      read =
-          λ givens solution calls o.
-          subst (λ (s : Session). Reads s (keep (newBook givens solution) calls)) (sym (session-left givens solution calls o))
-          (reads-all (keep (newBook givens solution) calls) (session-all givens solution calls o .journalAfter)
-          (session-all givens solution calls o .checksAfter) (good-keep (newBook givens solution) calls (good-new givens solution o))
-          (session-all givens solution calls o .held));
+      read = λ s r. of-book s r Reads (λ k journal checks g h. reads-all k journal checks g h);
       standing =
-          λ givens solution calls o.
-          subst (λ (s : Session). 1 ≤ s .board .standing → ReadsItself s) (sym (session-left givens solution calls o))
-          (reads-itself (keep (newBook givens solution) calls) (session-all givens solution calls o .journalAfter)
-          (session-all givens solution calls o .checksAfter) (good-keep (newBook givens solution) calls (good-new givens solution o))
-          (session-all givens solution calls o .held));
+          λ s r.
+          of-book s r (λ (x : Session) (k : Book). 1 ≤ x .board .standing → ReadsItself x) (λ k journal checks g h. reads-itself k journal checks g h);
     }

@@ -41,7 +41,7 @@ board-unsolved k g = (
 )
 
 reached : (s : Session) → Reached s → (s .board .solved ≡ 1) ↔ EachOnce (s .board .digits)
-reached s r = of-book s r (λ (x : Session). (x .board .solved ≡ 1) ↔ EachOnce (x .board .digits)) (λ k journal checks g h. board-solved k g)
+reached s r = of-book s r (λ (x : Session) (k : Book). (x .board .solved ≡ 1) ↔ EachOnce (x .board .digits)) (λ k journal checks g h. board-solved k g)
 
 -- peers share a unit, and no cell is its own peer
 peers-share : (cell other : ℕ) → arePeers cell other ≡ true → Share cell other
@@ -61,7 +61,7 @@ solved-theorem =
           reached (after (started (openedFresh givens solution)) calls)
           (record { givens = givens; solution = solution; opens = o; calls = calls; kept = demand3 .played givens solution calls o .kept });
       reached = reached;
-      unsolved = λ s r. of-book s r (λ (x : Session). (x .board .solved ≡ 0) ↔ (EachOnce (x .board .digits) → ⊥)) (λ k journal checks g h. board-unsolved k g);
+      unsolved = λ s r. of-book s r (λ (x : Session) (k : Book). (x .board .solved ≡ 0) ↔ (EachOnce (x .board .digits) → ⊥)) (λ k journal checks g h. board-unsolved k g);
       nine = unit-nine;
       peers = λ cell other p q. (peers-share cell other, (λ share. unit-peers cell other p q (share .kind) (share .unit) (share .two)));
     }

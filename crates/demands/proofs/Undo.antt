@@ -329,18 +329,18 @@ undo-theorem =
     record {
       does =
           λ s m r.
-          of-book s r (λ (x : Session). answers x (Make m ∷ []) ≡ yes ∷ [] → Does (x .board) m (after x (Make m ∷ []) .board))
+          of-book s r (λ (x : Session) (k : Book). answers x (Make m ∷ []) ≡ yes ∷ [] → Does (x .board) m (after x (Make m ∷ []) .board))
           (λ k journal checks g h e. does k journal checks g h m e);
       back =
           λ s m r.
-          of-book s r (λ (x : Session). answers x (Make m ∷ []) ≡ yes ∷ [] → after x (Make m ∷ []) .board .solved ≡ 0 → TakenBack x m)
+          of-book s r (λ (x : Session) (k : Book). answers x (Make m ∷ []) ≡ yes ∷ [] → after x (Make m ∷ []) .board .solved ≡ 0 → TakenBack x m)
           (λ k journal checks g h e z. taken-back k journal checks g h m e (status-after k journal checks g h m e 0 z));
       final =
           λ s m r.
-          of-book s r (λ (x : Session). answers x (Make m ∷ []) ≡ yes ∷ [] → after x (Make m ∷ []) .board .solved ≡ 1 → Final x m)
+          of-book s r (λ (x : Session) (k : Book). answers x (Make m ∷ []) ≡ yes ∷ [] → after x (Make m ∷ []) .board .solved ≡ 1 → Final x m)
           (λ k journal checks g h e z. final k journal checks g h m e (status-after k journal checks g h m e 1 z));
       undo-redo =
-          λ s r. of-book s r (λ (x : Session). answers x (Undo ∷ []) ≡ yes ∷ [] → Cancel x Undo Redo) (λ k journal checks g h e. undo-redo k journal checks g h e);
+          λ s r. of-book s r (λ (x : Session) (k : Book). answers x (Undo ∷ []) ≡ yes ∷ [] → Cancel x Undo Redo) (λ k journal checks g h e. undo-redo k journal checks g h e);
       redo-undo =
-          λ s r. of-book s r (λ (x : Session). answers x (Redo ∷ []) ≡ yes ∷ [] → Cancel x Redo Undo) (λ k journal checks g h e. redo-undo k journal checks g h e);
+          λ s r. of-book s r (λ (x : Session) (k : Book). answers x (Redo ∷ []) ≡ yes ∷ [] → Cancel x Redo Undo) (λ k journal checks g h e. redo-undo k journal checks g h e);
     }

@@ -89,6 +89,10 @@ pub record Reached (s : Session) : Type 0 where
   pub calls : List Call
   pub kept : Kept s (keep (newBook givens solution) calls)
 
+-- that book
+unfoldable pub bookOf : (s : Session) → Reached s → Book
+bookOf s r = keep (newBook (r .givens) (r .solution)) (r .calls)
+
 -- a list of calls from a session is answered as from the book, and leaves what the book then holds
 pub record PlaysAs (s : Session) (k : Book) (calls : List Call) : Type 0 where
   pub answered : answers s calls ≡ saysAll k calls

@@ -1,25 +1,21 @@
--- Readings on a board played from its opening, the statement: every move that was made is read, and
--- its reading is the book's: kind, target, digit, whether undone, and digits and notes after that move
--- and no later one; for 0 and for a number above made there is no reading, but the refusal 35; and the
--- reading of the last standing move has the board's own digits and notes.
+-- Readings on every board that calls reach, from an opening or from a reopening, the statement: every move that was
+-- made is read, and its reading is the book's: kind, target, digit, whether undone, and digits and notes after that
+-- move and no later one; for 0 and for a number above made there is no reading, but the refusal 35; and the reading
+-- of the last standing move has the board's own digits and notes.
 -- The proof stands elsewhere. Assumes nothing.
 use Prim.Native.Nat.{ℕ, _-_, _≤_, _<_}
 use mathlib.Core.Path.{_≡_}
-use mathlib.Core.List.{List}
 use lib.Dec.{ltb}
 use lib.ListN.{getD, take}
-use Rattle.puzzle.specs.declared.Given.{Given}
 use Rattle.puzzle.specs.Refusals.{refusal, accepted}
 use Rattle.journal.specs.declared.Move.{Move}
 use Rattle.journal.specs.declared.Move.the-variants.{Erase}
 use Rattle.journal.specs.State.{State, opening, kindOf, rowIn, columnIn, digitIn}
-use Rattle.board.specs.Open.{openedFresh}
 use Rattle.readings.specs.declared.Reading.{Reading}
 use Rattle.readings.specs.Reading.{noReading, readingOf}
-use Rattle.calls.specs.declared.Call.{Call}
-use Rattle.calls.specs.Session.{Session, after, started}
-use Rattle.demands.specs.Book.{Book, newBook, made, performAll, keep}
-use Rattle.demands.specs.Opens.{Opens}
+use Rattle.calls.specs.Session.{Session}
+use Rattle.demands.specs.Book.{Book, made, performAll}
+use Rattle.demands.specs.Demand3.{Reached, bookOf}
 
 -- move n of the book, n from 1 to made
 unfoldable pub moveAt : Book → ℕ → Move
@@ -60,12 +56,5 @@ pub record ReadsItself (s : Session) : Type 0 where
   pub notes : readSession s (s .board .standing) .notes ≡ s .board .notes
 
 pub record ReadingsTheorem : Type 0 where
-  pub read :
-      (givens : List Given) (solution : List ℕ) (calls : List Call)
-      → Opens givens solution
-      → Reads (after (started (openedFresh givens solution)) calls) (keep (newBook givens solution) calls)
-  pub standing :
-      (givens : List Given) (solution : List ℕ) (calls : List Call)
-      → Opens givens solution
-      → 1 ≤ after (started (openedFresh givens solution)) calls .board .standing
-      → ReadsItself (after (started (openedFresh givens solution)) calls)
+  pub read : (s : Session) (r : Reached s) → Reads s (bookOf s r)
+  pub standing : (s : Session) → Reached s → 1 ≤ s .board .standing → ReadsItself s
