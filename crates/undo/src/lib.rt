@@ -182,7 +182,7 @@ pub fn undo_in<'a>(
 pub fn again_in(digits: &mut [u8; 81], notes: &mut [u16; 81], solved: u8, slot: Slot) -> u8
     ensures { λ r. ⌜ ((given : List ℕ) → parts given (now (digits .exit)) (now (notes .exit)) r ≡ performAgain (parts given (now (digits .entry)) (now (notes .entry)) solved) (moveOf slot) (slot .struck)) ⌝ }
 {
-    take_again(notes, slot);
     let digit = put_again(digits, solved, slot);
+    take_again(notes, slot);
     digit.solved
 }

@@ -7,18 +7,18 @@ use borrow.Author.Needs.{needs}
 use Rattle.undo.proofs.again_in.Statement.{statement}
 use Rattle.undo.proofs.again_in.Tie as tie
 
-take-again-requires : tie.Need-take-again-requires
-take-again-requires c κs = search needs
-
 put-again-requires : tie.Need-put-again-requires
 put-again-requires c κs = search needs
+
+take-again-requires : tie.Need-take-again-requires
+take-again-requires c κs = search needs
 
 returns : tie.Need-returns
 returns c given =
     let a = c .before .before .before .before .args in
-    let digit = c .put-again .ensures .1 given (a .notes .now) in
-    let notes = c .before .before .take-again .ensures .1 given (a .digits .now) (a .solved) in
+    let digit = c .before .before .put-again .ensures .1 given (a .notes .now) in
+    let notes = c .take-again .ensures .1 given (a .digits .now) (a .solved) in
     (λ i. parts given (digit .1 i) (notes i) (digit .0 i)) ∙ again-parts (parts given (a .digits .now) (a .notes .now) (a .solved)) (a .slot)
 
 pub again-in-spec : {M : Type 1} → statement M
-again-in-spec = tie.close (tie.spec take-again-requires put-again-requires returns)
+again-in-spec = tie.close (tie.spec put-again-requires take-again-requires returns)
