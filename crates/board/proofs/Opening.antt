@@ -19,10 +19,8 @@ use Rattle.puzzle.specs.Refusals.{accepted, refusal, isAccepted}
 use Rattle.puzzle.specs.declared.Layout.the-variants.{Triples}
 use Rattle.puzzle.specs.Givens.{triples}
 use Rattle.puzzle.specs.Code.GivenBytes.{givensIn}
-use Rattle.puzzle.specs.Code.Rows.{rowsOf, flat}
 use Rattle.puzzle.specs.Vouch.{wellPosed}
 use Rattle.puzzle.proofs.GivenBytes.{triples-in}
-use Rattle.puzzle.proofs.Rows.{flat-rows}
 use Rattle.journal.specs.Limits.{journalBytes, checkMemory}
 use Rattle.board.specs.declared.Answer.{Answer}
 use Rattle.board.specs.Board.{fresh, zeroBoard}
@@ -61,7 +59,7 @@ module _ (gs : List Given) (solution : List ℕ) where
   unfolding posed
   posed-refused h = pick-false _ _ _ h
 
--- the givens as they stand in the bytes, three bytes each, and the solution by way of its nine rows
+-- the givens as they stand in the bytes, three bytes each
 module _ (givens solution : List ℕ) (r : Refusal) (e : r ≡ wellPosed (givensIn Triples givens (length givens / 3)) solution) where
   outcome : wellPosed (triples givens) solution ≡ r
   outcome = ap (λ gs. wellPosed gs solution) (triples-in givens) ∙ sym e
@@ -71,11 +69,11 @@ module _ (givens solution : List ℕ) (r : Refusal) (e : r ≡ wellPosed (givens
   opened-refused h =
       sym (posed-refused (triples givens) solution (ne-eqb _ 0 (λ z. h (ap (λ x. x .number) (sym outcome) ∙ z))) ∙ ap (λ x. answer x zeroBoard) outcome)
 
-  pub opened-fresh : r .number ≡ 0 → length solution ≡ 81
-      → answer accepted (fresh (givensIn Triples givens (length givens / 3)) (flat (rowsOf solution))) ≡ posed (triples givens) solution
+  pub opened-fresh : r .number ≡ 0
+      → answer accepted (fresh (givensIn Triples givens (length givens / 3)) solution) ≡ posed (triples givens) solution
   unfolding isAccepted
-  opened-fresh h n =
-      (λ i. answer accepted (fresh (sym (triples-in givens) i) (flat-rows solution n i)))
+  opened-fresh h =
+      ap (λ gs. answer accepted (fresh gs solution)) (sym (triples-in givens))
       ∙ sym (posed-fresh (triples givens) solution (eq-eqb _ 0 (ap (λ x. x .number) outcome ∙ h)))
 
 -- ---- openOf

@@ -20,7 +20,7 @@ ghost use Rattle.sudoku.specs.Tests.{both};
 ghost use Rattle.puzzle.specs.Refusals.{refusal as refusalOf};
 ghost use Rattle.puzzle.specs.Givens.{triples};
 ghost use Rattle.puzzle.specs.Code.GivenBytes.{givensIn};
-ghost use Rattle.puzzle.specs.Code.Rows.{rowsOf, flat as flatOf};
+ghost use Rattle.puzzle.specs.Code.Rows.{flat as flatOf};
 ghost use Rattle.journal.specs.Limits.{journalBytes, checkMemory};
 ghost use Rattle.board.specs.Board.{fresh as freshOf, zeroBoard};
 ghost use Rattle.board.specs.Open.{answer, posed, openOf, Gives};
@@ -53,12 +53,12 @@ pub fn zero_board() -> Board
 }
 
 // The fresh board of givens and their solution: no notes, no moves, no checks.
-pub fn fresh(bytes: &[u8], layout: Layout, count: usize, solution: &[u8]) -> Board
-    ensures { λ r. ⌜ r ≡ freshOf (givensIn layout (now (bytes .entry)) count) (flatOf (rowsOf (now (solution .entry)))) ⌝ }
+pub fn fresh(bytes: &[u8], layout: Layout, count: usize, rows: [[u8; 9]; 9]) -> Board
+    ensures { λ r. ⌜ r ≡ freshOf (givensIn layout (now (bytes .entry)) count) (flatOf rows) ⌝ }
 {
     let digits = put_givens(bytes, layout, count);
     let given = mark_givens(bytes, layout, count);
-    let right = flat(rows_of(solution));
+    let right = flat(rows);
     Board {
         digits: digits,
         given: given,
@@ -100,7 +100,8 @@ fn opened(givens: &[u8], solution: &[u8]) -> Answer
     ensures { λ r. ⌜ r ≡ posed (triples (now (givens .entry))) (now (solution .entry)) ⌝ }
 {
     let count = givens.len() / 3;
-    let r = well_posed(givens, Layout::Triples, count, solution);
+    let rows = rows_of(solution);
+    let r = well_posed(givens, Layout::Triples, count, rows);
     if r.number != 0 {
         return Answer {
             refusal: r,
@@ -109,7 +110,7 @@ fn opened(givens: &[u8], solution: &[u8]) -> Answer
     }
     Answer {
         refusal: accepted(),
-        board: fresh(givens, Layout::Triples, count, solution),
+        board: fresh(givens, Layout::Triples, count, rows),
     }
 }
 

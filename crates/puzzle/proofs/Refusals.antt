@@ -2,12 +2,11 @@
 -- what is left of a walk in which the first refused decides.
 -- A loop counts i up to e, which it does not reach, as in the laws of walks.
 -- Assumes nothing.
-use Prim.Native.Nat.{ℕ, zero, suc, _+_, _-_, _≤_, _<_}
-use mathlib.Core.Path.{_≡_, refl, sym, ap, _∙_}
+use Prim.Native.Nat.{ℕ, _+_, _-_, _≤_, _<_}
+use mathlib.Core.Path.{_≡_, sym, ap, _∙_}
 use mathlib.Core.Bool.{Bool, true}
 use native.Mathlib.Nat.{sub-eq-zero-of-le}
 use native.Mathlib.Numerals.{add-one}
-use native.Mathlib.Omega.{arith}
 use borrow.Author.Tests.{eq-eqb, ne-eqb}
 use Rattle.sudoku.proofs.Walks.{pick-true, left-one}
 use Rattle.puzzle.specs.declared.Refusal.{Refusal}
@@ -54,10 +53,3 @@ module _ (f : ℕ → Refusal) (e i : ℕ) where
   pub walk-all : e ≤ i → firstRefused f (e - i) i ≡ accepted
   unfolding firstRefused
   walk-all h = ap (λ (n : ℕ). firstRefused f n i) (sub-eq-zero-of-le h)
-
--- two walks that say the same at each of the numbers
-pub walk-same : (f g : ℕ → Refusal) (n i : ℕ) → ((k : ℕ) → i ≤ k → k < i + n → f k ≡ g k) → firstRefused f n i ≡ firstRefused g n i
-unfolding firstRefused
-walk-same f g zero i h = refl
-walk-same f g (suc n) i h =
-    λ j. orElse (h i (omega arith) (omega arith) j) (walk-same f g n (suc i) (λ k l u. h k (omega arith) (omega arith)) j)

@@ -18,6 +18,7 @@ ghost use mathlib.Core.Path.{_≡_};
 ghost use mathlib.Core.Bool.{not};
 ghost use lib.Dec.{leb};
 ghost use Rattle.sudoku.specs.Tests.{either};
+ghost use Rattle.puzzle.specs.Code.Rows.{flat as flatOf};
 ghost use Rattle.journal.specs.Limits.{maxMoves};
 ghost use Rattle.record.specs.Reopen.{unreadable as unreadableOf};
 ghost use Rattle.record.specs.Code.Counting.{Room, givenStep, moveStep, undoneStep, checkStep, itemStep, stepOf, refusedBy, malformedAt, scannedOf, isOversized, miscountedBy, readRecord};
@@ -214,9 +215,9 @@ fn miscounted(s: Scanned) -> Refusal
 }
 
 // 17 to 27, by what a scan of the bytes answered. 19 speaks of all givens of the record, however many they are.
-fn unreadable(bytes: &[u8], s: Scanned, solution: &[u8]) -> Refusal
+fn unreadable(bytes: &[u8], s: Scanned, rows: [[u8; 9]; 9]) -> Refusal
     requires { ⌜ s ≡ scannedOf (now bytes) ⌝ }
-    ensures { λ r. ⌜ r ≡ unreadableOf (now (bytes .entry)) (now (solution .entry)) ⌝ }
+    ensures { λ r. ⌜ r ≡ unreadableOf (now (bytes .entry)) (flatOf rows) ⌝ }
 {
     let order = s.refusal;
     if order.number != 0 {
@@ -232,15 +233,15 @@ fn unreadable(bytes: &[u8], s: Scanned, solution: &[u8]) -> Refusal
     if counts.number != 0 {
         return counts;
     }
-    vouch(bytes, Layout::Items, s.givens, solution)
+    vouch(bytes, Layout::Items, s.givens, rows)
 }
 
-// Reads a record and its solution before any move is performed: 17 to 27, or what the record counts.
-pub fn read_record(bytes: &[u8], solution: &[u8]) -> Scanned
-    ensures { λ r. ⌜ r ≡ readRecord (now (bytes .entry)) (now (solution .entry)) ⌝ }
+// Reads a record beside its solution before any move is performed: 17 to 27, or what the record counts.
+pub fn read_record(bytes: &[u8], rows: [[u8; 9]; 9]) -> Scanned
+    ensures { λ r. ⌜ r ≡ readRecord (now (bytes .entry)) (flatOf rows) ⌝ }
 {
     let s = scan(bytes);
-    let r = unreadable(bytes, s, solution);
+    let r = unreadable(bytes, s, rows);
     if r.number != 0 {
         return refused(r);
     }

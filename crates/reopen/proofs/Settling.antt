@@ -17,10 +17,8 @@ use Rattle.puzzle.specs.declared.Refusal.{Refusal}
 use Rattle.puzzle.specs.Refusals.{refusal, accepted, isAccepted, refusedIf, orElse}
 use Rattle.puzzle.specs.Givens.{isOn}
 use Rattle.puzzle.specs.Code.GivenBytes.{givensIn}
-use Rattle.puzzle.specs.Code.Rows.{rowsOf, flat}
 use Rattle.puzzle.proofs.Accepted.{if-not, or-else-left, or-else-right}
 use Rattle.puzzle.proofs.Refusals.{refused-if, or-else-by, or-else-past}
-use Rattle.puzzle.proofs.Rows.{flat-rows}
 use Rattle.journal.specs.Limits.{maxMoves, maxChecks, journalBytes, checkMemory, checkItemBytes, givenItemBytes}
 use Rattle.journal.specs.Bytes.{over}
 use Rattle.board.specs.declared.Answer.{Answer}
@@ -206,9 +204,8 @@ module _ (bytes solution : List ℕ) (s : Scanned) (e : s ≡ readRecord bytes s
         ∙ asks-stand parts bytes whole (checks-fit bytes are form)
 
     module _
-        (full : length solution ≡ 81)
         (b : Board)
-        (w : b ≡ fresh (givensIn Items bytes (s .givens)) (flat (rowsOf solution)))
+        (w : b ≡ fresh (givensIn Items bytes (s .givens)) solution)
         (memory : List ℕ)
         (none : memory ≡ noMoves) where
       pub none-stand : b .standing ≡ 0
@@ -225,7 +222,7 @@ module _ (bytes solution : List ℕ) (s : Scanned) (e : s ≡ readRecord bytes s
 
         plays : replay b memory 1 (movesAt bytes (givenItemBytes * s .givens) (s .moves)) ≡ all
         plays =
-            λ j. replay ((w ∙ (λ i. fresh (givens-here i) (flat-rows solution full i))) j) (none j) 1 (moves-here j)
+            λ j. replay ((w ∙ (λ i. fresh (givens-here i) solution)) j) (none j) 1 (moves-here j)
 
         answers : a ≡ all .answer
         answers = p ∙ ap (λ (x : Played). x .answer) plays

@@ -20,6 +20,7 @@ use puzzle::Layout;
 use puzzle::Refusal;
 use puzzle::answer::accepted;
 use puzzle::answer::refusal;
+use puzzle::vouch::rows_of;
 use record::CHECK_ITEM;
 use record::GIVEN_ITEM;
 use record::items::asked_at;
@@ -321,7 +322,8 @@ fn reopened(bytes: &[u8], solution: &[u8], journal: &mut [u8], checks: &mut [u8]
     requires { ⌜ (length (now solution) ≡ 81) × (now journal ≡ noMoves) × (now checks ≡ noChecks) ⌝ }
     ensures { λ r. ⌜ Reopens (reopenedOf (now (bytes .entry)) (now (solution .entry))) r (now (journal .exit)) (now (checks .exit)) ⌝ }
 {
-    let s = read_record(bytes, solution);
+    let rows = rows_of(solution);
+    let s = read_record(bytes, rows);
     let unread = s.refusal;
     if unread.number != 0 {
         return Answer {
@@ -329,7 +331,7 @@ fn reopened(bytes: &[u8], solution: &[u8], journal: &mut [u8], checks: &mut [u8]
             board: zero_board(),
         };
     }
-    let board = fresh(bytes, Layout::Items, s.givens, solution);
+    let board = fresh(bytes, Layout::Items, s.givens, rows);
     let played = replay(bytes, GIVEN_ITEM * s.givens, s.moves, board, journal);
     let unplayed = played.refusal;
     if unplayed.number != 0 {

@@ -8,10 +8,13 @@ use borrow.Author.Needs.{needs}
 use lib.Dec.{eqb}
 use Rattle.sudoku.specs.Grid.{at, peersOf}
 use Rattle.sudoku.proofs.Walks.{not-is-true, not-is-false}
+use Rattle.sudoku.proofs.Grid.{is-cell, peers-to}
 use Rattle.puzzle.specs.Refusals.{refusal, accepted}
 use Rattle.puzzle.specs.Vouch.{firstHolding, solutionConflict}
+use Rattle.puzzle.specs.Code.Rows.{flat}
 use Rattle.puzzle.proofs.Accepted.{if-not}
 use Rattle.puzzle.proofs.Refusals.{refused-if}
+use Rattle.puzzle.proofs.Rows.{flat-cell}
 use Rattle.puzzle.proofs.vouch.conflict_at.Statement.{statement}
 use Rattle.puzzle.proofs.vouch.conflict_at.Tie as tie
 
@@ -24,19 +27,32 @@ module _ (s : List ℕ) (cell peer : ℕ) (e : peer ≡ firstHolding s (at s cel
   unfolding solutionConflict
   free z = rw (← e) (if-not _ (refusal 25 cell peer) (not-is-false (eqb peer 0) (eq-eqb peer 0 z)))
 
--- what the walk found is the first peer equal to the cell
-found : (c : tie.After-first-holding)
-    → c .first-holding .result ≡ firstHolding (c .before .before .before .args .digits .now) (at (c .before .before .before .args .digits .now) (c .before .before .before .args .cell)) (peersOf (c .before .before .before .args .cell))
-found c = rw (c .first-holding .ensures, c .before .peers .ensures, c .before .before .digit-at .ensures)
+sub-at : tie.Need-sub-at
+sub-at c = search needs
 
-digit-at-requires : tie.Need-digit-at-requires
-digit-at-requires c κs = search needs
+mul-first-holding : tie.Need-mul-first-holding
+mul-first-holding c = search needs
+
+index-1-first-holding : tie.Need-index-1-first-holding
+index-1-first-holding c = search needs
+
+index-2-first-holding : tie.Need-index-2-first-holding
+index-2-first-holding c = search needs
 
 peers-requires : tie.Need-peers-requires
 peers-requires c κs = search needs
 
 first-holding-requires : tie.Need-first-holding-requires
-first-holding-requires c κs = search needs
+first-holding-requires c κs i h =
+    let a = c .before .before .args in
+    rw (c .peers .ensures) (peers-to (a .cell) (is-cell (a .cell) (c .before .before .pre .0) (c .before .before .pre .1)) i h)
+
+-- what the walk found is the first peer equal to the cell
+found : (c : tie.After-first-holding)
+    → c .first-holding .result ≡ firstHolding (flat (c .before .before .before .args .t1)) (at (flat (c .before .before .before .args .t1)) (c .before .before .before .args .cell)) (peersOf (c .before .before .before .args .cell))
+found c =
+    let a = c .before .before .before .args in
+    rw (c .first-holding .ensures, c .before .peers .ensures, flat-cell (a .t1) (a .cell) (c .before .before .before .pre .1))
 
 refusal-requires : tie.Need-refusal-requires
 refusal-requires c κs = search needs
@@ -44,8 +60,7 @@ refusal-requires c κs = search needs
 returns : tie.Need-returns
 returns c =
     let a = c .before .before .before .before .before .args in
-    c .refusal .ensures ∙ sym (held (a .digits .now) (a .cell) (c .before .before .first-holding .result) (found ((c .before .before)))
-    (c .before .if1 .taken))
+    c .refusal .ensures ∙ sym (held (flat (a .t1)) (a .cell) (c .before .before .first-holding .result) (found (c .before .before)) (c .before .if1 .taken))
 
 accepted-requires : tie.Need-accepted-requires
 accepted-requires c κs = search needs
@@ -53,14 +68,16 @@ accepted-requires c κs = search needs
 returns-2 : tie.Need-returns-2
 returns-2 c =
     let a = c .before .before .before .before .before .args in
-    c .accepted .ensures ∙ sym (free (a .digits .now) (a .cell) (c .before .before .first-holding .result) (found ((c .before .before)))
-    (c .before .if1 .left))
+    c .accepted .ensures ∙ sym (free (flat (a .t1)) (a .cell) (c .before .before .first-holding .result) (found (c .before .before)) (c .before .if1 .left))
 
 pub conflict-at-spec : {M : Type 1} → statement M
 conflict-at-spec =
     tie.close
     (tie.spec
-    digit-at-requires
+    sub-at
+    mul-first-holding
+    index-1-first-holding
+    index-2-first-holding
     peers-requires
     first-holding-requires
     refusal-requires

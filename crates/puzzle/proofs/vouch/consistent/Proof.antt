@@ -1,5 +1,5 @@
--- `puzzle::vouch::consistent` meets its contract: that of the walk over the digits
--- laid out, which finds nothing where the grid is full and no cell conflicts.
+-- `puzzle::vouch::consistent` meets its contract: that of the walk over the
+-- rows, which finds nothing where the grid is full and no cell conflicts.
 -- Assumes nothing.
 use mathlib.Core.Path.{sym, _∙_}
 use borrow.Author.Needs.{needs}
@@ -24,7 +24,7 @@ first-conflict-requires : tie.Need-first-conflict-requires
 first-conflict-requires c κs = search needs
 
 returns-2 : tie.Need-returns-2
-returns-2 c = rw (c .first-conflict .ensures, c .before .before .before .before .before .flat .ensures)
+returns-2 c = c .first-conflict .ensures
 
 pub consistent-spec : {M : Type 1} → statement M
 consistent-spec = tie.close (tie.spec flat-requires settled-requires accepted-requires returns first-conflict-requires returns-2)

@@ -7,14 +7,16 @@ use borrow.Author.Needs.{needs}
 use Rattle.puzzle.specs.Refusals.{firstRefused}
 use Rattle.puzzle.proofs.Refusals.{walk-refused, walk-more, walk-all}
 use Rattle.puzzle.specs.Vouch.{solutionConflict}
+use Rattle.puzzle.specs.Code.Rows.{flat}
 use Rattle.puzzle.proofs.vouch.first_conflict.Statement.{statement}
 use Rattle.puzzle.proofs.vouch.first_conflict.Tie as tie
 
 abbrev Inv-loop : tie.InvT-loop
-Inv-loop digits cell₀ cell = (1 ≤ cell) × (cell ≤ 82) × (firstRefused (solutionConflict digits) 81 1 ≡ firstRefused (solutionConflict digits) (82 - cell) cell)
+Inv-loop rows cell₀ cell =
+    (1 ≤ cell) × (cell ≤ 82) × (firstRefused (solutionConflict (flat rows)) 81 1 ≡ firstRefused (solutionConflict (flat rows)) (82 - cell) cell)
 
 abbrev μ-loop : tie.MeasureT-loop
-μ-loop digits cell₀ cell = 82 - cell
+μ-loop rows cell₀ cell = 82 - cell
 
 loop-holds : tie.Need-loop-holds Inv-loop μ-loop
 loop-holds c = (omega arith, omega arith, refl)
@@ -25,7 +27,7 @@ conflict-at-requires c κs = search needs
 returns : tie.Need-returns Inv-loop μ-loop
 returns c =
     let turn = c .before .before .before .before .loop in
-    sym (turn .inv .2 ∙ walk-refused (solutionConflict (c .before .before .before .before .before .args .digits .now)) 82 (turn .cell)
+    sym (turn .inv .2 ∙ walk-refused (solutionConflict (flat (c .before .before .before .before .before .args .rows))) 82 (turn .cell)
     (c .before .before .conflict-at .result) (omega arith) (c .before .before .conflict-at .ensures) (c .if1 .taken))
 
 add-cell : tie.Need-add-cell Inv-loop μ-loop
@@ -39,7 +41,7 @@ loop-again c =
     let turn = c .before .before .before .before .loop in (
       omega arith,
       omega arith,
-      turn .inv .2 ∙ walk-more (solutionConflict (c .before .before .before .before .before .args .digits .now)) 82
+      turn .inv .2 ∙ walk-more (solutionConflict (flat (c .before .before .before .before .before .args .rows))) 82
           (turn .cell) (c .before .before .conflict-at .result) (omega arith) (c .before .before .conflict-at .ensures) (c .if1 .left),
     )
 
@@ -49,7 +51,7 @@ accepted-requires c κs = search needs
 returns-2 : tie.Need-returns-2 Inv-loop μ-loop
 returns-2 c =
     let turn = c .before .before .loop in
-    c .accepted .ensures ∙ sym (turn .inv .2 ∙ walk-all (solutionConflict (c .before .before .before .args .digits .now)) 82 (turn .cell)
+    c .accepted .ensures ∙ sym (turn .inv .2 ∙ walk-all (solutionConflict (flat (c .before .before .before .args .rows))) 82 (turn .cell)
     (omega arith))
 
 pub first-conflict-spec : {M : Type 1} → statement M

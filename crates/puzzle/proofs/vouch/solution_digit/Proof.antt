@@ -35,52 +35,26 @@ module _ (s : List ℕ) (cell : ℕ) where
         or-else-past _ _ (if-not (eqb (at s cell) 0) (refusal 23 cell 0) (ne-eqb (at s cell) 0 n))
         ∙ if-not _ (refusal 24 cell 0) (not-is-false (leb (at s cell) 9) (le-leb (at s cell) 9 h))
 
--- the byte that was read is the solution's digit
-read : (c : tie.After-byte-at) → c .byte-at .result ≡ at (c .before .before .before .args .solution .now) (c .before .before .before .args .cell)
-unfolding at
-read c = rw (c .byte-at .ensures, c .before .index-of .ensures)
-
-index-of-requires : tie.Need-index-of-requires
-index-of-requires c κs = search needs
-
-byte-at-requires : tie.Need-byte-at-requires
-byte-at-requires c κs = search needs
-
 refusal-requires : tie.Need-refusal-requires
 refusal-requires c κs = search needs
 
 returns : tie.Need-returns
-returns c =
-    let a = c .before .before .before .before .before .args in
-    c .refusal .ensures ∙ sym (empty (a .solution .now) (a .cell) (sym (read ((c .before .before))) ∙ c .before .if1 .taken))
+returns c solution e = c .refusal .ensures ∙ sym (empty solution (c .before .before .args .cell) (e ∙ c .before .if1 .taken))
 
 refusal-requires-2 : tie.Need-refusal-requires-2
 refusal-requires-2 c κs = search needs
 
 returns-2 : tie.Need-returns-2
-returns-2 c =
-    let a = c .before .before .before .before .before .before .args in
-    c .refusal2 .ensures ∙ sym (large (a .solution .now) (a .cell) (λ e. c .before .before .if1 .left (read ((c .before .before .before)) ∙ e))
-    (rw (read ((c .before .before .before))) at (c .before .if2 .taken)))
+returns-2 c solution e =
+    c .refusal2 .ensures ∙ sym (large solution (c .before .before .before .args .cell) (λ z. c .before .before .if1 .left (sym e ∙ z)) (rw e (c .before .if2 .taken)))
 
 accepted-requires : tie.Need-accepted-requires
 accepted-requires c κs = search needs
 
 returns-3 : tie.Need-returns-3
-returns-3 c =
-    let a = c .before .before .before .before .before .before .args in
-    c .accepted .ensures ∙ sym (digit (a .solution .now) (a .cell) (λ e. c .before .before .if1 .left (read ((c .before .before .before)) ∙ e))
-    (rw (read ((c .before .before .before))) at (c .before .if2 .left)))
+returns-3 c solution e =
+    c .accepted .ensures ∙ sym (digit solution (c .before .before .before .args .cell) (λ z. c .before .before .if1 .left (sym e ∙ z)) (rw e (c .before .if2 .left)))
 
 pub solution-digit-spec : {M : Type 1} → statement M
 solution-digit-spec =
-    tie.close
-    (tie.spec
-    index-of-requires
-    byte-at-requires
-    refusal-requires
-    returns
-    refusal-requires-2
-    returns-2
-    accepted-requires
-    returns-3)
+    tie.close (tie.spec refusal-requires returns refusal-requires-2 returns-2 accepted-requires returns-3)

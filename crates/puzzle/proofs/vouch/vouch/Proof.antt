@@ -1,5 +1,4 @@
--- `puzzle::vouch::vouch` meets its contract: 22, then 23 and 24, then 25, then 26 and 27. The
--- rows are the solution read from its bytes, so the tests say of them what they say of it.
+-- `puzzle::vouch::vouch` meets its contract: 22, then 23 and 24, then 25, then 26 and 27.
 -- Assumes nothing.
 use Prim.Native.Nat.{ℕ, _≤_, _<_}
 use mathlib.Core.Path.{_≡_, refl, sym, ap, _∙_}
@@ -13,18 +12,13 @@ use Rattle.puzzle.specs.declared.Given.{Given}
 use Rattle.puzzle.specs.declared.Refusal.{Refusal}
 use Rattle.puzzle.specs.Refusals.{refusal, firstRefused, orElse}
 use Rattle.puzzle.specs.Code.GivenBytes.{givensIn}
-use Rattle.puzzle.specs.Code.Rows.{rowsOf, flat}
+use Rattle.puzzle.specs.Code.Rows.{flat}
 use Rattle.puzzle.specs.Vouch.{nothingLeft, solutionDigit, solutionConflict, givensMatch, vouch}
 use Rattle.puzzle.proofs.Accepted.{if-not}
 use Rattle.puzzle.proofs.Refusals.{refused-if, or-else-by, or-else-passed, or-else-past}
 use Rattle.puzzle.proofs.GivenBytes.{length-givens}
-use Rattle.puzzle.proofs.Rows.{flat-rows-cell, conflicts-same, matches-same}
 use Rattle.puzzle.proofs.vouch.vouch.Statement.{statement}
 use Rattle.puzzle.proofs.vouch.vouch.Tie as tie
-
--- 25 of nine rows
-abbrev ofRows : List (List ℕ) → Refusal
-ofRows rows = firstRefused (solutionConflict (flat rows)) 81 1
 
 module _ (gs : List Given) (s : List ℕ) where
   none-left : 81 ≤ length gs → vouch gs s ≡ refusal 22 0 0
@@ -42,26 +36,26 @@ module _ (gs : List Given) (s : List ℕ) where
       not-filled : (f .number ≡ 0 → ⊥) → vouch gs s ≡ f
       not-filled n = some-left ∙ or-else-by _ _ f (sym e) n
 
-      module _ (z : f .number ≡ 0) (r : Refusal) (d : r ≡ ofRows (rowsOf s)) where
+      module _ (z : f .number ≡ 0) (r : Refusal) (d : r ≡ firstRefused (solutionConflict s) 81 1) where
         full : vouch gs s ≡ orElse r (givensMatch s gs 1)
         full =
             some-left
             ∙ or-else-passed _ _ (ap (λ (x : Refusal). x .number) (sym e) ∙ z)
-            ∙ ap (λ (x : Refusal). orElse x (givensMatch s gs 1)) (sym (d ∙ conflicts-same (flat (rowsOf s)) s (flat-rows-cell s)))
+            ∙ ap (λ (x : Refusal). orElse x (givensMatch s gs 1)) (sym d)
 
         in-conflict : (r .number ≡ 0 → ⊥) → vouch gs s ≡ r
         in-conflict n = full ∙ or-else-by r (givensMatch s gs 1) r refl n
 
-        to-match : r .number ≡ 0 → vouch gs s ≡ givensMatch (flat (rowsOf s)) gs 1
-        to-match n = full ∙ or-else-passed r (givensMatch s gs 1) n ∙ sym (matches-same (flat (rowsOf s)) s (flat-rows-cell s) gs 1)
+        to-match : r .number ≡ 0 → vouch gs s ≡ givensMatch s gs 1
+        to-match n = full ∙ or-else-passed r (givensMatch s gs 1) n
 
 refusal-requires : tie.Need-refusal-requires
 refusal-requires c κs = search needs
 
 returns : tie.Need-returns
 returns c =
-    let a = c .before .before .before .before .args in
-    c .refusal .ensures ∙ sym (none-left (givensIn (a .layout) (a .bytes .now) (a .count)) (a .solution .now)
+    let a = c .before .before .before .args in
+    c .refusal .ensures ∙ sym (none-left (givensIn (a .layout) (a .bytes .now) (a .count)) (flat (a .rows))
     (omega (arith, length-givens (a .layout) (a .bytes .now) (a .count), c .before .if1 .taken)))
 
 filled-requires : tie.Need-filled-requires
@@ -69,42 +63,37 @@ filled-requires c κs = search needs
 
 returns-2 : tie.Need-returns-2
 returns-2 c =
-    let a = c .before .before .before .before .before .before .args in
+    let a = c .before .before .before .before .before .args in
     let fill = c .before .before .filled in
-    sym (not-filled (givensIn (a .layout) (a .bytes .now) (a .count)) (a .solution .now)
+    sym (not-filled (givensIn (a .layout) (a .bytes .now) (a .count)) (flat (a .rows))
     (omega (arith, length-givens (a .layout) (a .bytes .now) (a .count))) (fill .result) (fill .ensures) (c .if2 .taken))
-
-rows-of-requires : tie.Need-rows-of-requires
-rows-of-requires c κs = search needs
 
 consistent-requires : tie.Need-consistent-requires
 consistent-requires c κs = search needs
 
 returns-3 : tie.Need-returns-3
 returns-3 c =
-    let a = c .before .before .before .before .before .before .before .before .before .before .args in
-    let fill = c .before .before .before .before .before .before .filled in
+    let a = c .before .before .before .before .before .before .before .before .args in
+    let fill = c .before .before .before .before .before .filled in
     let test = c .before .before .consistent in
-    sym (in-conflict (givensIn (a .layout) (a .bytes .now) (a .count)) (a .solution .now)
+    sym (in-conflict (givensIn (a .layout) (a .bytes .now) (a .count)) (flat (a .rows))
     (omega (arith, length-givens (a .layout) (a .bytes .now) (a .count))) (fill .result) (fill .ensures)
-    (c .before .before .before .before .if2 .left) (test .result)
-    (test .ensures ∙ ap ofRows (c .before .before .before .rows-of .ensures)) (c .if3 .taken))
+    (c .before .before .before .if2 .left) (test .result)
+    (test .ensures) (c .if3 .taken))
 
 matches-requires : tie.Need-matches-requires
 matches-requires c κs = search needs
 
 returns-4 : tie.Need-returns-4
 returns-4 c =
-    let a = c .before .before .before .before .before .before .before .before .before .before .before .args in
-    let fill = c .before .before .before .before .before .before .before .filled in
+    let a = c .before .before .before .before .before .before .before .before .before .args in
+    let fill = c .before .before .before .before .before .before .filled in
     let test = c .before .before .before .consistent in
     c .matches .ensures
-    ∙ ap (λ (rows : List (List ℕ)). givensMatch (flat rows) (givensIn (a .layout) (a .bytes .now) (a .count)) 1)
-    (c .before .before .before .before .rows-of .ensures)
-    ∙ sym (to-match (givensIn (a .layout) (a .bytes .now) (a .count)) (a .solution .now)
+    ∙ sym (to-match (givensIn (a .layout) (a .bytes .now) (a .count)) (flat (a .rows))
     (omega (arith, length-givens (a .layout) (a .bytes .now) (a .count))) (fill .result) (fill .ensures)
-    (c .before .before .before .before .before .if2 .left) (test .result)
-    (test .ensures ∙ ap ofRows (c .before .before .before .before .rows-of .ensures)) (c .before .if3 .left))
+    (c .before .before .before .before .if2 .left) (test .result)
+    (test .ensures) (c .before .if3 .left))
 
 pub vouch-spec : {M : Type 1} → statement M
 vouch-spec =
@@ -114,7 +103,6 @@ vouch-spec =
     returns
     filled-requires
     returns-2
-    rows-of-requires
     consistent-requires
     returns-3
     matches-requires

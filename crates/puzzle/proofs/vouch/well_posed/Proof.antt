@@ -22,7 +22,7 @@ refusal-requires c κs = search needs
 returns : tie.Need-returns
 unfolding wellPosed
 returns c =
-    let a = c .before .before .before .before .before .args in
+    let a = c .before .before .before .before .args in
     c .refusal .ensures
     ∙ sym (or-else-by _ _ (refusal 19 0 0)
     (refused-if _ (refusal 19 0 0) (not-is-true (ascending (givensIn (a .layout) (a .bytes .now) (a .count)))
@@ -34,7 +34,7 @@ vouch-requires c κs = search needs
 returns-2 : tie.Need-returns-2
 unfolding wellPosed
 returns-2 c =
-    let a = c .before .before .before .before .before .args in
+    let a = c .before .before .before .before .args in
     c .vouch .ensures
     ∙ sym (or-else-past _ _
     (if-not _ (refusal 19 0 0) (not-is-false (ascending (givensIn (a .layout) (a .bytes .now) (a .count)))
