@@ -15,6 +15,7 @@ use Rattle.journal.specs.Limits.{journalBytes}
 use Rattle.journal.specs.State.{State, performAgain}
 use Rattle.journal.specs.Slots.{slotAt, moveOf}
 use Rattle.board.specs.declared.Board.{Board}
+use Rattle.board.specs.Board.{countsOf, moved}
 use Rattle.play.specs.Play.{journalRefusal}
 use Rattle.readings.specs.declared.Reading.{Reading}
 
@@ -28,6 +29,10 @@ openingOf b =
       solved = 0;
     }
 
+-- the same as a board: its solution, its counts and the number of its checks stay
+unfoldable pub openingBoard : Board → Board
+openingBoard b = moved b (openingOf b) (countsOf b)
+
 -- the state with slot n applied, as recorded
 unfoldable pub applySlot : List ℕ → State → ℕ → State
 applySlot journal s n =
@@ -37,6 +42,10 @@ applySlot journal s n =
 -- the state after slots 1 to k
 unfoldable pub stateAfter : Board → List ℕ → ℕ → State
 stateAfter b journal k = run (applySlot journal) (openingOf b) k 1
+
+-- the same as a board: its solution, its counts and the number of its checks stay
+unfoldable pub boardAfter : Board → List ℕ → ℕ → Board
+boardAfter b journal k = moved b (stateAfter b journal k) (countsOf b)
 
 -- 1; 2; 14 for any of the slots 1 to made, place naming the first; 35 A reading's k is 0 or above made
 unfoldable pub readingRefusal : Board → List ℕ → ℕ → Refusal

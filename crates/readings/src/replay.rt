@@ -10,8 +10,7 @@ ghost use mathlib.Core.Path.{_≡_};
 ghost use Rattle.puzzle.specs.Givens.{isGiven};
 ghost use Rattle.sudoku.specs.Tests.{pick, listed};
 ghost use Rattle.sudoku.specs.Grid.{at};
-ghost use Rattle.board.specs.Board.{stateOf};
-ghost use Rattle.readings.specs.Reading.{openingOf, stateAfter};
+ghost use Rattle.readings.specs.Reading.{openingBoard, boardAfter};
 
 // The digit of a cell that is a given; 0 for any other.
 fn given_digit(digits: &[u8; 81], given: &[u8; 81], cell: usize) -> u8
@@ -38,7 +37,7 @@ fn given_digits(digits: [u8; 81], given: &[u8; 81]) -> [u8; 81]
 
 // The board's givens and empty notes.
 fn opening(board: Board) -> Board
-    ensures { λ r. ⌜ stateOf r ≡ openingOf board ⌝ }
+    ensures { λ r. ⌜ r ≡ openingBoard board ⌝ }
 {
     let kept = board.digits;
     let digits = given_digits(kept, &board.given);
@@ -51,7 +50,7 @@ fn opening(board: Board) -> Board
 
 // The board after slots 1 to k.
 pub fn after(board: Board, journal: &[u8], k: usize) -> Board
-    ensures { λ r. ⌜ stateOf r ≡ stateAfter board (now (journal .entry)) k ⌝ }
+    ensures { λ r. ⌜ r ≡ boardAfter board (now (journal .entry)) k ⌝ }
 {
     let mut stood = opening(board);
     let mut digits = stood.digits;

@@ -1,16 +1,17 @@
 -- `readings::replay::after` meets its contract: what is left to apply from slot i + 1 on leads to the same state.
 -- Assumes nothing.
 use Prim.Native.Nat.{ℕ, _≤_, _+_, _-_}
-use mathlib.Core.Path.{_≡_, sym, ap, _∙_}
+use mathlib.Core.Path.{_≡_, refl, sym, ap, _∙_}
 use native.Mathlib.Omega.{arith}
 use Rattle.sudoku.specs.Tests.{run}
 use Rattle.sudoku.proofs.Walks.{run-more, run-all}
 use Rattle.journal.specs.declared.Slot.{Slot}
 use Rattle.journal.specs.State.{State, performAgain}
 use Rattle.journal.specs.Slots.{moveOf}
-use Rattle.board.specs.Board.{stateOf}
+use Rattle.board.specs.declared.Board.{Board}
+use Rattle.board.specs.Board.{stateOf, countsOf, boardOf, moved}
 use Rattle.play.specs.Code.Parts.{parts}
-use Rattle.readings.specs.Reading.{applySlot, stateAfter}
+use Rattle.readings.specs.Reading.{openingOf, openingBoard, applySlot, stateAfter, boardAfter}
 use borrow.Author.Needs.{needs}
 use Rattle.readings.proofs.replay.after.Statement.{statement}
 use Rattle.readings.proofs.replay.after.Tie as tie
@@ -60,16 +61,31 @@ loop-again c =
           ∙ ap (λ (t : State). run (applySlot (a .journal .now)) t (a .k + 1 - (turn .i + 1 + 1)) (turn .i + 1 + 1)) (sym applied),
     )
 
+-- what the opening board is: its state, and the rest of the board as it came
+module _ (b : Board) where
+  opened-state : stateOf (openingBoard b) ≡ openingOf b
+  unfolding stateOf openingBoard boardOf moved
+  opened-state = refl
+
+  rest-stays : (s : State) → moved (openingBoard b) s (countsOf (openingBoard b)) ≡ moved b s (countsOf b)
+  unfolding openingBoard countsOf boardOf moved
+  rest-stays s = refl
+
 returns : tie.Need-returns Inv-loop μ-loop
-unfolding stateAfter stateOf
+unfolding boardAfter stateAfter stateOf countsOf boardOf moved
 returns c =
     let a = c .before .before .before .before .before .before .args in
     let turn = c .before .loop in
-    let s = parts (c .before .before .before .before .opening .result .given) (turn .digits) (turn .notes) (turn .solved) in
+    let opened = c .before .before .before .before .opening in
+    let s = parts (opened .result .given) (turn .digits) (turn .notes) (turn .solved) in
+    let stood : s ≡ stateAfter (a .board) (a .journal .now) (a .k) =
     sym
-    (ap (λ (t : State). run (applySlot (a .journal .now)) t (a .k) 1) (sym (c .before .before .before .before .opening .ensures))
+    (ap (λ (t : State). run (applySlot (a .journal .now)) t (a .k) 1) (sym (ap stateOf (opened .ensures) ∙ opened-state (a .board)))
     ∙ turn .inv .1
-    ∙ run-all (applySlot (a .journal .now)) s (a .k + 1) (turn .i + 1) (omega (arith, c .loop-test .left)))
+    ∙ run-all (applySlot (a .journal .now)) s (a .k + 1) (turn .i + 1) (omega (arith, c .loop-test .left))) in
+    ap (λ (t : State). moved (opened .result) t (countsOf (opened .result))) stood
+    ∙ ap (λ (b : Board). moved b (stateAfter (a .board) (a .journal .now) (a .k)) (countsOf b)) (opened .ensures)
+    ∙ rest-stays (a .board) (stateAfter (a .board) (a .journal .now) (a .k))
 
 pub after-spec : {M : Type 1} → statement M
 after-spec =
