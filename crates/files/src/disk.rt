@@ -8,7 +8,13 @@ use sudoku::CELLS;
 use texts::Cells;
 use texts::grids::cells;
 use texts::part;
+ghost use mathlib.Core.Path.{_≡_};
+ghost use mathlib.Core.Bool.{false};
 ghost use Prim.Native.Nat.{_≤_};
+ghost use lib.ListN.{length};
+ghost use Rattle.texts.specs.Code.Parts.{partOf};
+ghost use Rattle.texts.specs.Grids.{noCells};
+ghost use Rattle.files.specs.Disk.{fileBytes, ReadInto, isWhole, wholeCells, CellsRead};
 
 // Bytes of the buffer that a file is read into: more than any puzzle or record has.
 pub const FILE_BYTES: usize = 8192;
@@ -64,7 +70,9 @@ fn read_some(fd: i32, buffer: &mut [u8], at: usize) -> isize {
 }
 
 // Where the bytes end that were read.
-fn advanced(buffer: &[u8], at: usize, got: isize) -> usize {
+fn advanced(buffer: &[u8], at: usize, got: isize) -> usize
+    ensures { λ r. ⌜ r ≤ length (now (buffer .entry)) ⌝ }
+{
     let more = io::count(got, buffer);
     if at > buffer.len() {
         return buffer.len();
@@ -76,7 +84,9 @@ fn advanced(buffer: &[u8], at: usize, got: isize) -> usize {
 }
 
 // Reads to the end of the file, or until the buffer is full. Every turn but the last brings a byte.
-fn read_all(fd: i32, buffer: &mut [u8; FILE_BYTES]) -> Got {
+fn read_all(fd: i32, buffer: &mut [u8; FILE_BYTES]) -> Got
+    ensures { λ r. ⌜ (r .length ≤ fileBytes) × (r .good ≡ false → r .length ≡ 0) ⌝ }
+{
     let mut at: usize = 0;
     let mut turns: usize = FILE_BYTES + 1;
     while turns > 0 {
@@ -103,7 +113,9 @@ fn read_all(fd: i32, buffer: &mut [u8; FILE_BYTES]) -> Got {
 }
 
 // Reads a file whole. One that fills the buffer is longer than any puzzle or record.
-pub fn read(path: &[u8], buffer: &mut [u8; FILE_BYTES]) -> Got {
+pub fn read(path: &[u8], buffer: &mut [u8; FILE_BYTES]) -> Got
+    ensures { λ r. ⌜ ReadInto r ⌝ }
+{
     let nothing = Got {
         good: false,
         length: 0,
@@ -127,32 +139,43 @@ pub fn read(path: &[u8], buffer: &mut [u8; FILE_BYTES]) -> Got {
     got
 }
 
-// Whether a text is 81 cells; says what is wrong where it is not.
-pub fn is_whole(path: &[u8], found: Cells) -> bool {
+// Says what is wrong with a text that is not 81 cells.
+fn complain(path: &[u8], found: Cells) {
     if found.wrong != 0 {
         shown(path);
         say(b": character ");
         number(found.wrong);
         say(b" is no cell: 1 to 9, or a point or 0 for an empty one\n");
-        return false;
+        return;
     }
     if found.count > CELLS {
         shown(path);
         say(b": it has more than 81 cells\n");
-        return false;
+        return;
     }
     if found.count < CELLS {
         shown(path);
         say(b": it has ");
         number(found.count);
         say(b" cells, and not 81\n");
+    }
+}
+
+// Whether a text is 81 cells; says what is wrong where it is not.
+pub fn is_whole(path: &[u8], found: Cells) -> bool
+    ensures { λ r. ⌜ r ≡ isWhole found ⌝ }
+{
+    complain(path, found);
+    if found.wrong != 0 {
         return false;
     }
-    true
+    found.count == CELLS
 }
 
 // The cells of a file that was read; none where it is not whole.
-fn whole_cells(path: &[u8], file: &[u8; FILE_BYTES], length: usize) -> Cells {
+fn whole_cells(path: &[u8], file: &[u8; FILE_BYTES], length: usize) -> Cells
+    ensures { λ r. ⌜ r ≡ wholeCells (partOf (now (file .entry)) 0 length) ⌝ }
+{
     let found = cells(part(file, 0, length));
     if is_whole(path, found) {
         return found;
@@ -160,7 +183,9 @@ fn whole_cells(path: &[u8], file: &[u8; FILE_BYTES], length: usize) -> Cells {
     no_cells()
 }
 
-fn no_cells() -> Cells {
+fn no_cells() -> Cells
+    ensures { λ r. ⌜ r ≡ noCells ⌝ }
+{
     Cells {
         cells: [0u8; 81],
         count: 0,
@@ -169,7 +194,9 @@ fn no_cells() -> Cells {
 }
 
 // The cells of a text file; none where it cannot be read or is not whole.
-pub fn read_cells(path: &[u8]) -> Cells {
+pub fn read_cells(path: &[u8]) -> Cells
+    ensures { λ r. ⌜ CellsRead r ⌝ }
+{
     let mut file = [0u8; FILE_BYTES];
     let got = read(path, &mut file);
     if got.good {

@@ -19,9 +19,11 @@ use texts::part;
 ghost use mathlib.Core.Path.{_≡_};
 ghost use Rattle.board.specs.Open.{openOf, Gives};
 ghost use Rattle.texts.specs.Code.Parts.{partOf};
-ghost use Rattle.files.specs.Load.{isRecord, givenBytes, openBytes};
+ghost use Rattle.files.specs.Load.{isRecord, givenBytes, openBytes, isOpenable, left, nothingLoaded, openApart, loadBytes, FileLoaded, FilesLoaded};
 
-fn nothing() -> Loaded {
+fn nothing() -> Loaded
+    ensures { λ r. ⌜ r ≡ nothingLoaded ⌝ }
+{
     Loaded {
         good: false,
         board: zero_board(),
@@ -88,7 +90,9 @@ fn open_apart(
     right: &[u8; 81],
     journal: &mut [u8; JOURNAL_BYTES],
     checks: &mut [u8; CHECK_MEMORY],
-) -> Loaded {
+) -> Loaded
+    ensures { λ r. ⌜ left r (now (journal .exit)) (now (checks .exit)) ≡ openApart (now (bytes .entry)) (now (right .entry)) (now (journal .entry)) (now (checks .entry)) ⌝ }
+{
     let mut own_journal = [0u8; JOURNAL_BYTES];
     let mut own_checks = [0u8; CHECK_MEMORY];
     let answer = open_bytes(bytes, right, &mut own_journal, &mut own_checks);
@@ -107,7 +111,9 @@ fn open_apart(
 }
 
 // Whether a file is a record, or a text of 81 cells.
-fn is_openable(path: &[u8], bytes: &[u8]) -> bool {
+fn is_openable(path: &[u8], bytes: &[u8]) -> bool
+    ensures { λ r. ⌜ r ≡ isOpenable (now (bytes .entry)) ⌝ }
+{
     if is_record(bytes) {
         return true;
     }
@@ -122,7 +128,9 @@ fn load_file(
     right: &[u8; 81],
     journal: &mut [u8; JOURNAL_BYTES],
     checks: &mut [u8; CHECK_MEMORY],
-) -> Loaded {
+) -> Loaded
+    ensures { λ r. ⌜ left r (now (journal .exit)) (now (checks .exit)) ≡ loadBytes (partOf (now (file .entry)) 0 length) (now (right .entry)) (now (journal .entry)) (now (checks .entry)) ⌝ }
+{
     let bytes = part(file, 0, length);
     if !is_openable(path, bytes) {
         return nothing();
@@ -136,7 +144,9 @@ fn load_with(
     right: &[u8; 81],
     journal: &mut [u8; JOURNAL_BYTES],
     checks: &mut [u8; CHECK_MEMORY],
-) -> Loaded {
+) -> Loaded
+    ensures { λ r. ⌜ FileLoaded (now (right .entry)) (now (journal .entry)) (now (checks .entry)) (left r (now (journal .exit)) (now (checks .exit))) ⌝ }
+{
     let mut file = [0u8; FILE_BYTES];
     let got = read(path, &mut file);
     if !got.good {
@@ -152,7 +162,9 @@ pub fn load(
     at_hand: &[u8; 81],
     journal: &mut [u8; JOURNAL_BYTES],
     checks: &mut [u8; CHECK_MEMORY],
-) -> Loaded {
+) -> Loaded
+    ensures { λ r. ⌜ FilesLoaded (now (solution .entry)) (now («at_hand» .entry)) (now (journal .entry)) (now (checks .entry)) (left r (now (journal .exit)) (now (checks .exit))) ⌝ }
+{
     if solution.len() == 0 {
         return load_with(path, at_hand, journal, checks);
     }
