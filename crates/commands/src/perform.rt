@@ -35,6 +35,12 @@ use texts::commands::value;
 use texts::part;
 use undo::redo;
 use undo::undo;
+ghost use mathlib.Core.Path.{_≡_};
+ghost use mathlib.Core.List.{List};
+ghost use Prim.Native.Nat.{ℕ};
+ghost use Rattle.play.specs.Play.{playOf};
+ghost use Rattle.calls.specs.Encoded.{runOne, session};
+ghost use Rattle.commands.specs.Perform.{narrowed, thirdOf, areNumbers, numbersOf, wantedBy, moveNamed, moveCall, undoCall, checkCall, Opens, Performs};
 
 // What the commands of play want.
 fn wanted_of_play(verb: u8) {
@@ -83,33 +89,50 @@ quit                     q   leave\n\
 }
 
 // A number as a byte. What is no byte is no row, no column and no digit either, and 255 is none of these.
-fn narrow(n: usize) -> u8 {
+fn narrow(n: usize) -> u8
+    ensures { λ r. ⌜ r ≡ narrowed n ⌝ }
+{
     if n > 255 {
         return 255;
     }
     n as u8
 }
 
-// The numbers of a command that wants two or three.
-fn numbered(line: &[u8], command: Command, words: usize) -> Numbers {
-    let row = value(line, command.first);
-    let column = value(line, command.second);
-    let mut digit: usize = 0;
-    if words == 3 {
-        digit = value(line, command.third);
+// The third number of a command, 0 where two are wanted.
+fn third(line: &[u8], command: Command, wanted: usize) -> usize
+    ensures { λ r. ⌜ r ≡ thirdOf (now (line .entry)) command wanted ⌝ }
+{
+    if wanted == 3 {
+        return value(line, command.third);
     }
-    let mut good = command.words == words;
+    0
+}
+
+// Whether there are as many words as are wanted, and each is a number.
+fn are_numbers(as_many: bool, row: usize, column: usize, digit: usize) -> bool
+    ensures { λ r. ⌜ r ≡ areNumbers «as_many» row column digit ⌝ }
+{
+    if !as_many {
+        return false;
+    }
     if row == NO_NUMBER {
-        good = false;
+        return false;
     }
     if column == NO_NUMBER {
-        good = false;
+        return false;
     }
-    if digit == NO_NUMBER {
-        good = false;
-    }
+    digit != NO_NUMBER
+}
+
+// The numbers of a command that wants two or three.
+fn numbered(line: &[u8], command: Command, wanted: usize) -> Numbers
+    ensures { λ r. ⌜ r ≡ numbersOf (now (line .entry)) command wanted ⌝ }
+{
+    let row = value(line, command.first);
+    let column = value(line, command.second);
+    let digit = third(line, command, wanted);
     Numbers {
-        good: good,
+        good: are_numbers(command.words == wanted, row, column, digit),
         row: narrow(row),
         column: narrow(column),
         digit: narrow(digit),
@@ -117,7 +140,9 @@ fn numbered(line: &[u8], command: Command, words: usize) -> Numbers {
 }
 
 // The board after a call: drawn, or with the refusal's words.
-fn settled(answer: Answer, coloured: bool) -> Board {
+fn settled(answer: Answer, coloured: bool) -> Board
+    ensures { λ r. ⌜ r ≡ answer .board ⌝ }
+{
     let refused = answer.refusal;
     let board = answer.board;
     if refused.number != 0 {
@@ -129,7 +154,9 @@ fn settled(answer: Answer, coloured: bool) -> Board {
 }
 
 // One of the four moves.
-fn played(verb: u8, n: Numbers, board: Board, journal: &mut [u8; JOURNAL_BYTES]) -> Answer {
+fn played(verb: u8, n: Numbers, board: Board, journal: &mut [u8; JOURNAL_BYTES]) -> Answer
+    ensures { λ r. ⌜ (r ≡ playOf board (now (journal .entry)) (moveNamed verb n) .answer) × (now (journal .exit) ≡ playOf board (now (journal .entry)) (moveNamed verb n) .journal) ⌝ }
+{
     match verb {
         b'p' => place(board, journal, n.row, n.column, n.digit),
         b'm' => write_mark(board, journal, n.row, n.column, n.digit),
@@ -139,7 +166,9 @@ fn played(verb: u8, n: Numbers, board: Board, journal: &mut [u8; JOURNAL_BYTES])
 }
 
 // How many numbers a move wants.
-fn move_words(verb: u8) -> usize {
+fn move_words(verb: u8) -> usize
+    ensures { λ r. ⌜ r ≡ wantedBy verb ⌝ }
+{
     if verb == b'e' {
         return 2;
     }
@@ -152,7 +181,9 @@ fn move_command(
     board: Board,
     journal: &mut [u8; JOURNAL_BYTES],
     coloured: bool,
-) -> Board {
+) -> Board
+    ensures { λ r. ⌜ ((checks : List ℕ) → session r (now (journal .exit)) checks ≡ runOne (session board (now (journal .entry)) checks) (moveCall (now (line .entry)) command) .left) ⌝ }
+{
     let verb = command.verb;
     let n = numbered(line, command, move_words(verb));
     if !n.good {
@@ -168,7 +199,9 @@ fn undo_command(
     board: Board,
     journal: &[u8; JOURNAL_BYTES],
     coloured: bool,
-) -> Board {
+) -> Board
+    ensures { λ r. ⌜ ((checks : List ℕ) → session r (now (journal .entry)) checks ≡ runOne (session board (now (journal .entry)) checks) (undoCall command) .left) ⌝ }
+{
     let verb = command.verb;
     if command.words != 0 {
         wanted(verb);
@@ -186,7 +219,9 @@ fn check_command(
     board: Board,
     checks: &mut [u8; CHECK_MEMORY],
     coloured: bool,
-) -> Board {
+) -> Board
+    ensures { λ r. ⌜ ((journal : List ℕ) → session r journal (now (checks .exit)) ≡ runOne (session board journal (now (checks .entry))) (checkCall (now (line .entry)) command) .left) ⌝ }
+{
     let n = numbered(line, command, 2);
     if !n.good {
         wanted(command.verb);
@@ -302,7 +337,9 @@ fn open_command(
     journal: &mut [u8; JOURNAL_BYTES],
     checks: &mut [u8; CHECK_MEMORY],
     coloured: bool,
-) -> Board {
+) -> Board
+    ensures { λ r. ⌜ Opens (now (line .entry)) command (session board (now (journal .entry)) (now (checks .entry))) (session r (now (journal .exit)) (now (checks .exit))) ⌝ }
+{
     if command.words < 1 {
         wanted(b'o');
         return board;
@@ -370,7 +407,9 @@ pub fn perform(
     journal: &mut [u8; JOURNAL_BYTES],
     checks: &mut [u8; CHECK_MEMORY],
     coloured: bool,
-) -> Board {
+) -> Board
+    ensures { λ r. ⌜ Performs (now (line .entry)) command (session board (now (journal .entry)) (now (checks .entry))) (session r (now (journal .exit)) (now (checks .exit))) ⌝ }
+{
     let verb = command.verb;
     match verb {
         b'p' | b'm' | b's' | b'e' => move_command(line, command, board, journal, coloured),
