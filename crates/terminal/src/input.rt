@@ -3,6 +3,9 @@ use crate::Byte;
 use crate::Line;
 use libc::STDIN_FILENO;
 use puzzle::byte_at;
+ghost use mathlib.Core.Path.{_≡_};
+ghost use Prim.Native.Nat.{_+_, _≤_};
+ghost use Rattle.terminal.specs.Input.{inputBytes, lineBytes, kept, withByte, LineRead};
 
 // Bytes of input that are read at once: a buffer of crate io.
 pub const INPUT_BYTES: usize = 4096;
@@ -10,7 +13,9 @@ pub const INPUT_BYTES: usize = 4096;
 pub const LINE_BYTES: usize = 256;
 
 // The next byte of those that were read.
-fn taken(buffer: &[u8; INPUT_BYTES], at: usize, end: usize) -> Byte {
+fn taken(buffer: &[u8; INPUT_BYTES], at: usize, end: usize) -> Byte
+    ensures { λ r. ⌜ (r .end ≡ end) × (at ≤ end → r .at ≤ end) ⌝ }
+{
     if at < end {
         return Byte {
             at: at + 1,
@@ -28,7 +33,9 @@ fn taken(buffer: &[u8; INPUT_BYTES], at: usize, end: usize) -> Byte {
 }
 
 // The next byte of the input, read anew where all that were read are used.
-fn next_byte(buffer: &mut [u8; INPUT_BYTES], at: usize, end: usize) -> Byte {
+fn next_byte(buffer: &mut [u8; INPUT_BYTES], at: usize, end: usize) -> Byte
+    ensures { λ r. ⌜ (at ≤ end → r .at ≤ r .end) × (end ≤ inputBytes → r .end ≤ inputBytes) ⌝ }
+{
     if at < end {
         return taken(buffer, at, end);
     }
@@ -38,7 +45,9 @@ fn next_byte(buffer: &mut [u8; INPUT_BYTES], at: usize, end: usize) -> Byte {
 }
 
 // A byte at the end of a line; what finds no room is dropped, and the line is too long.
-fn put(line: &mut [u8; LINE_BYTES], n: usize, byte: u8) -> usize {
+fn put(line: &mut [u8; LINE_BYTES], n: usize, byte: u8) -> usize
+    ensures { λ r. ⌜ (kept (now (line .exit)) r ≡ withByte (kept (now (line .entry)) n) byte) × (r ≤ lineBytes + 1) ⌝ }
+{
     if n < LINE_BYTES {
         line[n] = byte;
         return n + 1;
@@ -46,7 +55,9 @@ fn put(line: &mut [u8; LINE_BYTES], n: usize, byte: u8) -> usize {
     LINE_BYTES + 1
 }
 
-fn line_of(b: Byte, length: usize, ended: bool) -> Line {
+fn line_of(b: Byte, length: usize, ended: bool) -> Line
+    ensures { λ r. ⌜ r ≡ record { at = b .at; end = b .end; length = length; ended = ended } ⌝ }
+{
     Line {
         at: b.at,
         end: b.end,
@@ -62,7 +73,9 @@ pub fn read_line(
     at: usize,
     end: usize,
     line: &mut [u8; LINE_BYTES],
-) -> Line {
+) -> Line
+    ensures { λ r. ⌜ LineRead (now (line .entry)) at end (now (line .exit)) r ⌝ }
+{
     let mut turns = u64::MAX;
     let mut n: usize = 0;
     let mut b = Byte {
