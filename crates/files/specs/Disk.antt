@@ -15,6 +15,10 @@ use Rattle.files.specs.declared.Got.{Got}
 abbrev pub fileBytes : ℕ
 fileBytes = 8192
 
+-- the most bytes of a name under which something is saved
+abbrev pub nameBytes : ℕ
+nameBytes = 4000
+
 -- what reading a file brings: its bytes, or nothing where it cannot be read or is too long
 pub data Content : Type 0 where
   unread : Content

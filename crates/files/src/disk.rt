@@ -10,11 +10,11 @@ use texts::grids::cells;
 use texts::part;
 ghost use mathlib.Core.Path.{_≡_};
 ghost use mathlib.Core.Bool.{false};
-ghost use Prim.Native.Nat.{_≤_};
+ghost use Prim.Native.Nat.{_≤_, _<_};
 ghost use lib.ListN.{length};
 ghost use Rattle.texts.specs.Code.Parts.{partOf};
 ghost use Rattle.texts.specs.Grids.{noCells};
-ghost use Rattle.files.specs.Disk.{fileBytes, ReadInto, isWhole, wholeCells, CellsRead};
+ghost use Rattle.files.specs.Disk.{fileBytes, nameBytes, ReadInto, isWhole, wholeCells, CellsRead};
 
 // Bytes of the buffer that a file is read into: more than any puzzle or record has.
 pub const FILE_BYTES: usize = 8192;
@@ -281,8 +281,10 @@ fn save_as(new: &mut [u8], path: &[u8], bytes: &[u8]) -> bool {
 }
 
 // Saves bytes under a name: they are written to a new file beside it, which then takes its place. Until then an earlier
-// file of that name stays whole.
-pub fn save(path: &[u8], bytes: &[u8]) -> bool {
+// file of that name stays whole. The disk decides what is answered, but that a name that is too long is refused.
+pub fn save(path: &[u8], bytes: &[u8]) -> bool
+    ensures { λ r. ⌜ (nameBytes < length (now (path .entry)) → r ≡ false) ⌝ }
+{
     if !is_replaceable(path) {
         failed(b"cannot write ", path);
         return false;
