@@ -21,7 +21,8 @@ use Rattle.play.specs.Play.{playOf, undoOf, redoOf}
 use Rattle.play.specs.Check.{checkOf}
 use Rattle.calls.specs.declared.Call.the-variants.{Make, Undo, Redo, Check}
 use Rattle.calls.specs.Session.{Session, Said, Called, called, callOf}
-use Rattle.calls.specs.Encoded.{callBytes, session, said, decodeAt, runOne, leftBy, saidTo, answerBytes, answersBytes, Ran, ran, answeredAt, runAt, runFrom}
+use Rattle.calls.specs.Encoded.{callBytes, session, said, decodeAt, runOne, leftBy, saidTo, answerBytes, answersBytes, Ran, ran, runFrom}
+use Rattle.calls.specs.Code.Running.{answeredAt, runAt}
 
 -- ---- what a call answers and leaves
 

@@ -133,14 +133,6 @@ runFrom calls s answers n i =
 unfoldable pub runOf : Session → List ℕ → List ℕ → Ran
 runOf s calls answers = runFrom calls s answers (groups (length calls) (length answers)) 0
 
--- a call's answer behind i others, and what it leaves
-unfoldable pub answeredAt : List ℕ → ℕ → Called → Ran
-answeredAt answers i c = ran (c .left) (over answers (callBytes * i) (answerBytes (c .said)))
-
--- group i run, and answered in its place
-unfoldable pub runAt : List ℕ → Session → List ℕ → ℕ → Ran
-runAt calls s answers i = answeredAt answers i (runOne s (decodeAt calls i))
-
 -- values of these records, by their fields
 abbrev pub session : Board → List ℕ → List ℕ → Session
 session board journal checks = record { board = board; journal = journal; checks = checks }

@@ -19,10 +19,10 @@ use Rattle.calls.specs.declared.Decoded.the-variants.{Of, Nothing}
 use Rattle.calls.specs.Session.{Session, called, callOf}
 use Rattle.calls.specs.Encoded.{runOne, session}
 use Rattle.texts.specs.declared.Command.{Command}
-use Rattle.texts.specs.Code.Parts.{partOf}
+use Rattle.texts.specs.Parts.{partOf}
 use Rattle.files.specs.declared.Loaded.{Loaded}
 use Rattle.files.specs.Disk.{Content}
-use Rattle.files.specs.Load.{Left, left, loadOf}
+use Rattle.files.specs.Load.{left, loadOf}
 use Rattle.commands.specs.declared.Numbers.{Numbers}
 use Rattle.commands.specs.Perform.{numbersOf, isMove, wantedBy, moveNamed, moveCall, isUndo, undoCall, checkCall, commandCall, takenUp, openLeaves, commandLeaves}
 

@@ -17,7 +17,7 @@ use Rattle.calls.specs.Session.{Session}
 use Rattle.calls.specs.Encoded.{runOne, session}
 use Rattle.texts.specs.declared.Command.{Command}
 use Rattle.texts.specs.Commands.{noNumber, valueOf}
-use Rattle.texts.specs.Code.Parts.{partOf}
+use Rattle.texts.specs.Parts.{partOf}
 use Rattle.files.specs.Disk.{Content}
 use Rattle.files.specs.Load.{Left, loadOf}
 use Rattle.commands.specs.declared.Numbers.{Numbers}

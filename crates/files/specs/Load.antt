@@ -13,7 +13,7 @@ use Rattle.board.specs.declared.Board.{Board}
 use Rattle.board.specs.Board.{zeroBoard}
 use Rattle.board.specs.Open.{Opened, noMoves, noChecks, openOf}
 use Rattle.record.specs.Reopen.{reopenOf}
-use Rattle.texts.specs.Code.Parts.{partOf}
+use Rattle.texts.specs.Parts.{partOf}
 use Rattle.texts.specs.Grids.{cellsOf, givensOf}
 use Rattle.files.specs.declared.Loaded.{Loaded}
 use Rattle.files.specs.Disk.{Content, unread, holding, isWhole, cellsIn}

@@ -12,7 +12,7 @@ ghost use mathlib.Core.Path.{_≡_};
 ghost use mathlib.Core.Bool.{false};
 ghost use Prim.Native.Nat.{_≤_, _<_};
 ghost use lib.ListN.{length};
-ghost use Rattle.texts.specs.Code.Parts.{partOf};
+ghost use Rattle.texts.specs.Parts.{partOf};
 ghost use Rattle.texts.specs.Grids.{noCells};
 ghost use Rattle.files.specs.Disk.{fileBytes, nameBytes, ReadInto, isWhole, wholeCells, CellsRead};
 

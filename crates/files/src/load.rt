@@ -18,7 +18,7 @@ use texts::grids::givens;
 use texts::part;
 ghost use mathlib.Core.Path.{_≡_};
 ghost use Rattle.board.specs.Open.{openOf, Gives};
-ghost use Rattle.texts.specs.Code.Parts.{partOf};
+ghost use Rattle.texts.specs.Parts.{partOf};
 ghost use Rattle.files.specs.Load.{isRecord, givenBytes, openBytes, isOpenable, left, nothingLoaded, openApart, loadBytes, FileLoaded, FilesLoaded};
 
 fn nothing() -> Loaded

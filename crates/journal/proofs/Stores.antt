@@ -8,7 +8,8 @@ use borrow.Author.Tests.{le-leb, lt-leb}
 use lib.ListN.{length, set}
 use lib.Seq.{sets, sets-eq}
 use Rattle.sudoku.proofs.Walks.{pick-true, pick-false}
-use Rattle.journal.specs.Bytes.{over, laid}
+use Rattle.journal.specs.Bytes.{over}
+use Rattle.journal.specs.Code.Laid.{laid}
 
 pub laid-over : (l : List ℕ) (i : ℕ) (bs : List ℕ) → i + length bs ≤ length l → laid l i bs ≡ over l i bs
 unfolding laid

@@ -2,9 +2,7 @@
 -- Assumes nothing.
 use Prim.Native.Nat.{ℕ, _+_, _*_, _/_, _%_}
 use mathlib.Core.List.{List, _++_}
-use lib.Dec.{leb}
 use lib.ListN.{length, take, drop}
-use Rattle.sudoku.specs.Tests.{pick}
 
 -- the n bytes from `start` on
 unfoldable pub part : List ℕ → ℕ → ℕ → List ℕ
@@ -13,10 +11,6 @@ part l start n = take n (drop start l)
 -- the memory with the bytes laid over it from `start` on; all else as it was
 unfoldable pub over : List ℕ → ℕ → List ℕ → List ℕ
 over l start bytes = take start l ++ bytes ++ drop (start + length bytes) l
-
--- the same where the bytes fit into the memory; where they do not, it stays as it was
-unfoldable pub laid : List ℕ → ℕ → List ℕ → List ℕ
-laid l start bytes = pick (leb (start + length bytes) (length l)) (over l start bytes) l
 
 -- the low, the second and the third byte of a number
 unfoldable pub low : ℕ → ℕ

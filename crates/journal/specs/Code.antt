@@ -1,1 +1,2 @@
 pub mod InTurn
+pub mod Laid

@@ -14,7 +14,8 @@ ghost use mathlib.Core.Path.{_≡_};
 ghost use Prim.Native.Nat.{_*_};
 ghost use Rattle.sudoku.specs.Tests.{bit};
 ghost use Rattle.journal.specs.Limits.{checkBytes};
-ghost use Rattle.journal.specs.Bytes.{laid, two as twoBytes};
+ghost use Rattle.journal.specs.Bytes.{two as twoBytes};
+ghost use Rattle.journal.specs.Code.Laid.{laid};
 ghost use Rattle.journal.specs.StoredChecks.{stored as storedOf, isRight, judged, storedBytes, verdictByte, askedAt, soundStored, isSoundCheck};
 
 // The verdict as a byte: 1 for right, else 0.

@@ -16,7 +16,8 @@ use sudoku::on_grid;
 ghost use mathlib.Core.Path.{_≡_};
 ghost use Prim.Native.Nat.{_*_};
 ghost use Rattle.journal.specs.Limits.{slotBytes};
-ghost use Rattle.journal.specs.Bytes.{laid, three as threeBytes};
+ghost use Rattle.journal.specs.Bytes.{three as threeBytes};
+ghost use Rattle.journal.specs.Code.Laid.{laid};
 ghost use Rattle.puzzle.specs.Givens.{isGiven};
 ghost use Rattle.journal.specs.Slots.{bytesOf, slotAt, moveOf, soundPlace, soundErase, soundMark, isSound, isFree, digitChange as digitChangeOf};
 

@@ -25,7 +25,8 @@ ghost use lib.ListN.{length};
 ghost use Rattle.puzzle.specs.Refusals.{accepted as acceptedOf};
 ghost use Rattle.journal.specs.Bytes.{over};
 ghost use Rattle.calls.specs.Session.{callOf};
-ghost use Rattle.calls.specs.Encoded.{callBytes, said, decodeAt, answerBytes, session, ran, answeredAt, runAt, runOf};
+ghost use Rattle.calls.specs.Encoded.{callBytes, said, decodeAt, answerBytes, session, ran, runOf};
+ghost use Rattle.calls.specs.Code.Running.{answeredAt, runAt};
 
 // What group i of four bytes encodes.
 fn decode_at(calls: &[u8], i: usize) -> Decoded

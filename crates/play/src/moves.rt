@@ -33,7 +33,7 @@ ghost use mathlib.Core.List.{List};
 ghost use Rattle.sudoku.specs.Grid.{put, peersOf};
 ghost use Rattle.journal.specs.State.{putDigit, strikeAll, perform as performOf};
 ghost use Rattle.journal.specs.Limits.{slotBytes};
-ghost use Rattle.journal.specs.Bytes.{laid};
+ghost use Rattle.journal.specs.Code.Laid.{laid};
 ghost use Rattle.journal.specs.Slots.{slotFor, plainSlot, bytesOf};
 ghost use Rattle.play.specs.Code.Parts.{parts};
 ghost use Rattle.play.specs.Play.{playOf, placeOf, eraseOf, writeMarkOf, strikeMarkOf};

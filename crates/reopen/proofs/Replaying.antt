@@ -19,7 +19,7 @@ use Rattle.journal.specs.Counts.{counts, recorded}
 use Rattle.board.specs.declared.Answer.{Answer}
 use Rattle.board.specs.declared.Board.{Board}
 use Rattle.journal.specs.Limits.{maxMoves, slotBytes}
-use Rattle.journal.specs.Bytes.{laid}
+use Rattle.journal.specs.Code.Laid.{laid}
 use Rattle.journal.specs.State.{perform}
 use Rattle.journal.specs.Slots.{slotFor, bytesOf}
 use Rattle.journal.proofs.Stores.{laid-over}

@@ -6,7 +6,6 @@ use mathlib.Core.Bool.{Bool, true, not}
 use mathlib.Core.List.{List, [], _∷_, _++_}
 use borrow.Author.Tests.{ne-eqb}
 use lib.Dec.{eqb}
-use Rattle.sudoku.specs.Tests.{both}
 use Rattle.sudoku.proofs.Walks.{both-left, both-right, both-true}
 use Rattle.terminal.specs.declared.Byte.{Byte}
 use Rattle.terminal.specs.declared.Line.{Line}

@@ -6,7 +6,7 @@ use mathlib.Core.List.{List, [], _∷_}
 use lib.Dec.{ltb, leb, eqb}
 use lib.ListN.{length, getD}
 use Rattle.sudoku.specs.Tests.{pick, both, either, bit, every, run, _⇒_, first}
-use Rattle.texts.specs.Code.Parts.{partOf}
+use Rattle.texts.specs.Parts.{partOf}
 use Rattle.texts.specs.declared.Word.{Word}
 use Rattle.texts.specs.declared.Command.{Command}
 

@@ -1,3 +1,3 @@
 pub mod Commands
 pub mod Grids
-pub mod Code
+pub mod Parts

@@ -1,7 +1,7 @@
 // Texts that the console and the referee read: the cells of a puzzle or a solution, and the commands of a player. All
 // of it is functions of bytes, with their contracts.
 ghost use mathlib.Core.Path.{_≡_};
-ghost use Rattle.texts.specs.Code.Parts.{partOf};
+ghost use Rattle.texts.specs.Parts.{partOf};
 
 pub mod commands;
 pub mod grids;

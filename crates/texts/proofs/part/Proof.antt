@@ -2,7 +2,7 @@
 -- Assumes nothing.
 use borrow.Author.Tests.{le-leb, lt-leb}
 use Rattle.sudoku.specs.Tests.{pick, both}
-use Rattle.texts.specs.Code.Parts.{partOf}
+use Rattle.texts.specs.Parts.{partOf}
 use borrow.Author.Needs.{needs}
 use Rattle.texts.proofs.part.Statement.{statement}
 use Rattle.texts.proofs.part.Tie as tie

@@ -1,6 +1,6 @@
 -- `files::disk::read_cells` meets its contract: the file holds what was read.
 -- Assumes nothing.
-use Rattle.texts.specs.Code.Parts.{partOf}
+use Rattle.texts.specs.Parts.{partOf}
 use Rattle.files.specs.Disk.{unread, holding, cellsIn}
 use borrow.Author.Needs.{needs}
 use Rattle.files.proofs.disk.read_cells.Statement.{statement}

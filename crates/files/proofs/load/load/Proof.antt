@@ -1,8 +1,6 @@
 -- `files::load::load` meets its contract: the files hold what was read.
 -- Assumes nothing.
 use mathlib.Core.Path.{sym, ap, _∙_}
-use mathlib.Core.List.{List}
-use Prim.Native.Nat.{ℕ}
 use Rattle.files.specs.declared.Loaded.{Loaded}
 use Rattle.texts.specs.declared.Cells.{Cells}
 use Rattle.files.specs.Disk.{unread}

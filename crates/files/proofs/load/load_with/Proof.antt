@@ -2,7 +2,7 @@
 -- Assumes nothing.
 use mathlib.Core.Path.{ap}
 use Rattle.files.specs.declared.Loaded.{Loaded}
-use Rattle.texts.specs.Code.Parts.{partOf}
+use Rattle.texts.specs.Parts.{partOf}
 use Rattle.files.specs.Disk.{unread, holding}
 use Rattle.files.specs.Load.{left, stays, loadFile}
 use borrow.Author.Needs.{needs}

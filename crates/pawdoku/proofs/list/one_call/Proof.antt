@@ -1,7 +1,8 @@
 -- `pawdoku::list::one_call` meets its contract.
 -- Assumes nothing.
 use mathlib.Core.Path.{refl}
-use Rattle.calls.specs.Encoded.{runOne, runAt}
+use Rattle.calls.specs.Encoded.{runOne}
+use Rattle.calls.specs.Code.Running.{runAt}
 use Rattle.calls.proofs.Running.{answers-it}
 use borrow.Author.Needs.{needs}
 use Rattle.pawdoku.proofs.list.one_call.Statement.{statement}

@@ -1,6 +1,5 @@
 -- `terminal::input::read_line` meets its contract, and ends: the turns are counted down.
 -- Assumes nothing.
-use Prim.Native.Nat.{_+_}
 use mathlib.Core.Path.{refl}
 use mathlib.Core.List.{[]}
 use native.Mathlib.Omega.{arith}
