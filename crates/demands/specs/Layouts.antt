@@ -42,7 +42,8 @@ pub record SlotRow (journal : List ℕ) (n : ℕ) (bytes : List ℕ) (slot : Slo
   pub read : slotAt (replicate (slotBytes * (n - 1)) 0 ++ bytes) n ≡ slot
   pub move : moveOf slot ≡ m
 
--- mark 4 is written into peers 0, 12 and 19 of (3,7), where 9 then 4 are placed; 5 is placed at (6,2) and erased
+-- mark 4 is written into peers 0, 12 and 19 of (3,7), where 9 and then 4 are placed;
+-- 5 is placed at (6,2) and erased; mark 6 is written at (9,2) and struck
 unfoldable pub callsSlots : List Call
 callsSlots =
     writeMark 1 7 4 ∷ writeMark 3 8 4 ∷ writeMark 9 7 4 ∷ place 3 7 9 ∷ place 3 7 4
@@ -135,8 +136,10 @@ pub record MalformedRows : Type 0 where
   pub second-6 : malformed (2 ∷ 3 ∷ 7 ∷ 4 ∷ 6 ∷ 0 ∷ 0 ∷ 6 ∷ 0 ∷ 0 ∷ []) ≡ refusal 17 3 0
   pub check-first : malformed (7 ∷ 4 ∷ 3 ∷ 9 ∷ 2 ∷ 8 ∷ 6 ∷ 0 ∷ 0 ∷ []) ≡ refusal 17 1 0
   pub check-before-6 : malformed (2 ∷ 3 ∷ 7 ∷ 4 ∷ 7 ∷ 1 ∷ 0 ∷ 3 ∷ 7 ∷ 4 ∷ 6 ∷ 0 ∷ 0 ∷ []) ≡ refusal 17 2 0
+  -- kind 0, and the first above the kinds that are there
   pub kind-0 : malformed (2 ∷ 3 ∷ 7 ∷ 4 ∷ 0 ∷ 3 ∷ 7 ∷ 4 ∷ 6 ∷ 0 ∷ 0 ∷ []) ≡ refusal 17 2 0
   pub kind-8 : malformed (2 ∷ 3 ∷ 7 ∷ 4 ∷ 8 ∷ 3 ∷ 7 ∷ 4 ∷ 6 ∷ 0 ∷ 0 ∷ []) ≡ refusal 17 2 0
+  -- one byte short, and the kind byte alone
   pub cut-place : malformed (3 ∷ 6 ∷ 2 ∷ 2 ∷ 3 ∷ 7 ∷ []) ≡ refusal 17 2 0
   pub cut-erase : malformed (2 ∷ 3 ∷ 7 ∷ 4 ∷ 3 ∷ 3 ∷ []) ≡ refusal 17 2 0
   pub cut-undone : malformed (6 ∷ 0 ∷ []) ≡ refusal 17 1 0
@@ -144,6 +147,7 @@ pub record MalformedRows : Type 0 where
   pub kind-alone-2 : malformed (3 ∷ 6 ∷ 2 ∷ 2 ∷ []) ≡ refusal 17 2 0
   pub kind-alone-6 : malformed (6 ∷ []) ≡ refusal 17 1 0
   pub kind-alone-7 : malformed (6 ∷ 0 ∷ 0 ∷ 7 ∷ []) ≡ refusal 17 2 0
+  -- items plus one, and behind an item of every kind
   pub without-6 : malformed (1 ∷ 4 ∷ 6 ∷ 7 ∷ 2 ∷ 3 ∷ 7 ∷ 4 ∷ 3 ∷ 3 ∷ 7 ∷ []) ≡ refusal 17 4 0
   pub no-bytes : malformed [] ≡ refusal 17 1 0
   pub behind-all-kinds : malformed (itemBytes ++ 8 ∷ []) ≡ refusal 17 8 0
