@@ -1,19 +1,41 @@
--- A line of the input as it is kept: the bytes that find room in its memory, and how many there are. Which bytes the
--- input brings no contract can say: a contract says that there are such bytes, and what is kept of them.
+-- A line of the input: which bytes it takes, in order and none lost, and what is kept of them. Which bytes the input
+-- brings no contract can say: a contract says that there are such bytes.
 -- Assumes nothing.
 use Prim.Native.Nat.{ℕ, _+_, _≤_}
 use mathlib.Core.Path.{_≡_}
-use mathlib.Core.Bool.{Bool, true, not}
-use mathlib.Core.List.{List, [], _∷_}
+use mathlib.Core.Bool.{Bool, true, false, not}
+use mathlib.Core.List.{List, [], _∷_, _++_}
 use lib.Dec.{ltb, eqb}
-use lib.ListN.{set}
+use lib.ListN.{length, getD, set, take, drop}
 use Rattle.sudoku.specs.Tests.{pick, both}
+use Rattle.terminal.specs.declared.Byte.{Byte}
 use Rattle.terminal.specs.declared.Line.{Line}
 
--- the most bytes that are read at once, and the most of a line that is taken
-abbrev pub inputBytes : ℕ
-inputBytes = 4096
+-- ---- bytes
 
+-- what of a buffer was read and is not used
+unfoldable pub unused : List ℕ → ℕ → ℕ → List ℕ
+unused buffer at end = drop at (take end buffer)
+
+-- the next byte of those that were read
+unfoldable pub takenAt : List ℕ → ℕ → ℕ → Byte
+takenAt buffer at end =
+    pick (ltb at end) (record { at = at + 1; end = end; byte = getD buffer at 0; ended = false })
+    (record { at = at; end = end; byte = 0; ended = true })
+
+-- a byte that came; none where the input ended
+unfoldable pub came : Byte → List ℕ
+came b = pick (b .ended) [] (b .byte ∷ [])
+
+-- a byte was taken from a buffer, or from what was read into it anew once all in it was used: none is lost
+pub record ByteTaken (buffer : List ℕ) (at end : ℕ) (after : List ℕ) (b : Byte) : Type 0 where
+  pub anew : List ℕ
+  pub all : end ≤ length buffer → unused buffer at end ++ anew ≡ came b ++ unused after (b .at) (b .end)
+  pub within : end ≤ length buffer → b .end ≤ length after
+
+-- ---- lines
+
+-- the most bytes of a line that is taken
 abbrev pub lineBytes : ℕ
 lineBytes = 256
 
@@ -39,12 +61,18 @@ unfoldable pub isLine : List ℕ → Bool
 isLine [] = true
 isLine (byte ∷ bytes) = both (not (eqb byte 10)) (isLine bytes)
 
--- a line was read into memory, from a buffer of which a part was read before and not used: the bytes are those before the
--- line's end, and of the buffer again a part is not used
-pub record LineRead (memory : List ℕ) (at end : ℕ) (after : List ℕ) (got : Line) : Type 0 where
+-- a line's end where it came; none where the input ended
+unfoldable pub lineEnd : Bool → List ℕ
+lineEnd closed = pick closed (10 ∷ []) []
+
+-- a line was read into memory: its bytes, up to its end, are what was in the buffer and not used, and what was read into it
+-- anew; what follows them is in the buffer afterwards
+pub record LineRead (memory buffer : List ℕ) (at end : ℕ) (memoryAfter bufferAfter : List ℕ) (got : Line) : Type 0 where
   pub bytes : List ℕ
   pub line : isLine bytes ≡ true
-  pub keeps : kept after (got .length) ≡ withBytes (kept memory 0) bytes
+  pub closed : Bool
+  pub anew : List ℕ
+  pub all : end ≤ length buffer → unused buffer at end ++ anew ≡ bytes ++ (lineEnd closed ++ unused bufferAfter (got .at) (got .end))
+  pub within : end ≤ length buffer → got .end ≤ length bufferAfter
+  pub keeps : kept memoryAfter (got .length) ≡ withBytes (kept memory 0) bytes
   pub fits : got .length ≤ lineBytes + 1
-  pub unused : at ≤ end → got .at ≤ got .end
-  pub within : end ≤ inputBytes → got .end ≤ inputBytes

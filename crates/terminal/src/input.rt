@@ -5,7 +5,7 @@ use libc::STDIN_FILENO;
 use puzzle::byte_at;
 ghost use mathlib.Core.Path.{_≡_};
 ghost use Prim.Native.Nat.{_+_, _≤_};
-ghost use Rattle.terminal.specs.Input.{inputBytes, lineBytes, kept, withByte, LineRead};
+ghost use Rattle.terminal.specs.Input.{takenAt, ByteTaken, lineBytes, kept, withByte, LineRead};
 
 // Bytes of input that are read at once: a buffer of crate io.
 pub const INPUT_BYTES: usize = 4096;
@@ -14,7 +14,7 @@ pub const LINE_BYTES: usize = 256;
 
 // The next byte of those that were read.
 fn taken(buffer: &[u8; INPUT_BYTES], at: usize, end: usize) -> Byte
-    ensures { λ r. ⌜ (r .end ≡ end) × (at ≤ end → r .at ≤ end) ⌝ }
+    ensures { λ r. ⌜ r ≡ takenAt (now (buffer .entry)) at end ⌝ }
 {
     if at < end {
         return Byte {
@@ -34,7 +34,7 @@ fn taken(buffer: &[u8; INPUT_BYTES], at: usize, end: usize) -> Byte
 
 // The next byte of the input, read anew where all that were read are used.
 fn next_byte(buffer: &mut [u8; INPUT_BYTES], at: usize, end: usize) -> Byte
-    ensures { λ r. ⌜ (at ≤ end → r .at ≤ r .end) × (end ≤ inputBytes → r .end ≤ inputBytes) ⌝ }
+    ensures { λ r. ⌜ ByteTaken (now (buffer .entry)) at end (now (buffer .exit)) r ⌝ }
 {
     if at < end {
         return taken(buffer, at, end);
@@ -74,7 +74,7 @@ pub fn read_line(
     end: usize,
     line: &mut [u8; LINE_BYTES],
 ) -> Line
-    ensures { λ r. ⌜ LineRead (now (line .entry)) at end (now (line .exit)) r ⌝ }
+    ensures { λ r. ⌜ LineRead (now (line .entry)) (now (buffer .entry)) at end (now (line .exit)) (now (buffer .exit)) r ⌝ }
 {
     let mut turns = u64::MAX;
     let mut n: usize = 0;

@@ -1,23 +1,32 @@
 -- `terminal::input::read_line` meets its contract, and ends: the turns are counted down.
 -- Assumes nothing.
 use mathlib.Core.Path.{refl}
-use mathlib.Core.List.{[]}
+use mathlib.Core.List.{[], append-nil}
 use native.Mathlib.Omega.{arith}
-use Rattle.terminal.specs.Input.{withBytes, isLine}
-use Rattle.terminal.proofs.Reading.{Going, comes, goes-on, line-read}
+use Rattle.terminal.specs.Input.{unused, withBytes, isLine}
+use Rattle.terminal.proofs.Reading.{Going, stops, input-ends, line-ends, goes-on}
 use borrow.Author.Needs.{needs}
 use Rattle.terminal.proofs.input.read_line.Statement.{statement}
 use Rattle.terminal.proofs.input.read_line.Tie as tie
 
 abbrev Inv-loop : tie.InvT-loop
-Inv-loop buffer₀ at end line₀ turns₀ n₀ b₀ buffer line turns n b = Going line₀ at end line n b
+Inv-loop buffer₀ at end line₀ turns₀ n₀ b₀ buffer line turns n b = Going line₀ buffer₀ at end line buffer n b
 
 abbrev μ-loop : tie.MeasureT-loop
 μ-loop buffer₀ at end line₀ turns₀ n₀ b₀ buffer line turns n b = turns
 
 loop-holds : tie.Need-loop-holds Inv-loop μ-loop
 unfolding withBytes isLine
-loop-holds c = record { bytes = []; line = refl; keeps = refl; fits = omega arith; unused = λ h. h; within = λ h. h }
+loop-holds c =
+    record {
+      bytes = [];
+      line = refl;
+      anew = [];
+      all = λ h. append-nil (unused (c .args .buffer .now) (c .args .at) (c .args .end));
+      within = λ h. h;
+      keeps = refl;
+      fits = omega arith;
+    }
 
 next-byte-requires : tie.Need-next-byte-requires Inv-loop μ-loop
 next-byte-requires c κs = search needs
@@ -26,13 +35,13 @@ line-of-requires : tie.Need-line-of-requires Inv-loop μ-loop
 line-of-requires c κs = search needs
 
 returns : tie.Need-returns Inv-loop μ-loop
-returns c = line-read (c .before .before .before .before .before .before .args .line .now) (c .before .before .before .before .before .before .args .at) (c .before .before .before .before .before .before .args .end) (c .before .before .before .before .before .loop .line) (c .before .before .before .before .before .loop .n) (c .before .before .next-byte .result) (comes (c .before .before .before .before .before .before .args .line .now) (c .before .before .before .before .before .before .args .at) (c .before .before .before .before .before .before .args .end) (c .before .before .before .before .before .loop .line) (c .before .before .before .before .before .loop .n) (c .before .before .before .before .before .loop .b) (c .before .before .before .before .before .loop .inv) (c .before .before .next-byte .result) (c .before .before .next-byte .ensures)) _ _ (c .line-of .ensures)
+returns c = input-ends (c .before .before .before .before .before .before .args .line .now) (c .before .before .before .before .before .before .args .buffer .now) (c .before .before .before .before .before .before .args .at) (c .before .before .before .before .before .before .args .end) (c .before .before .before .before .before .loop .line) (c .before .before .before .before .before .loop .buffer) (c .before .before .before .before .before .loop .n) (c .before .before .before .before .before .loop .b) (c .before .before .before .before .before .loop .inv) (c .before .before .next-byte .last .0) (c .before .before .next-byte .result) (c .before .before .next-byte .ensures) (c .before .if1 .taken) _ _ (c .line-of .ensures)
 
 line-of-requires-2 : tie.Need-line-of-requires-2 Inv-loop μ-loop
 line-of-requires-2 c κs = search needs
 
 returns-2 : tie.Need-returns-2 Inv-loop μ-loop
-returns-2 c = line-read (c .before .before .before .before .before .before .before .before .args .line .now) (c .before .before .before .before .before .before .before .before .args .at) (c .before .before .before .before .before .before .before .before .args .end) (c .before .before .before .before .before .before .before .loop .line) (c .before .before .before .before .before .before .before .loop .n) (c .before .before .before .before .next-byte .result) (comes (c .before .before .before .before .before .before .before .before .args .line .now) (c .before .before .before .before .before .before .before .before .args .at) (c .before .before .before .before .before .before .before .before .args .end) (c .before .before .before .before .before .before .before .loop .line) (c .before .before .before .before .before .before .before .loop .n) (c .before .before .before .before .before .before .before .loop .b) (c .before .before .before .before .before .before .before .loop .inv) (c .before .before .before .before .next-byte .result) (c .before .before .before .before .next-byte .ensures)) _ _ (c .line-of2 .ensures)
+returns-2 c = line-ends (c .before .before .before .before .before .before .before .before .args .line .now) (c .before .before .before .before .before .before .before .before .args .buffer .now) (c .before .before .before .before .before .before .before .before .args .at) (c .before .before .before .before .before .before .before .before .args .end) (c .before .before .before .before .before .before .before .loop .line) (c .before .before .before .before .before .before .before .loop .buffer) (c .before .before .before .before .before .before .before .loop .n) (c .before .before .before .before .before .before .before .loop .b) (c .before .before .before .before .before .before .before .loop .inv) (c .before .before .before .before .next-byte .last .0) (c .before .before .before .before .next-byte .result) (c .before .before .before .before .next-byte .ensures) (c .before .before .before .if1 .left) (c .before .if2 .taken) _ _ (c .line-of2 .ensures)
 
 put-requires : tie.Need-put-requires Inv-loop μ-loop
 put-requires c κs = search needs
@@ -44,13 +53,13 @@ loop-less : tie.Need-loop-less Inv-loop μ-loop
 loop-less c = search needs
 
 loop-again : tie.Need-loop-again Inv-loop μ-loop
-loop-again c = goes-on (c .before .before .before .before .before .before .before .before .before .args .line .now) (c .before .before .before .before .before .before .before .before .before .args .at) (c .before .before .before .before .before .before .before .before .before .args .end) (c .before .before .before .before .before .before .before .before .loop .line) (c .before .before .before .before .before .before .before .before .loop .n) (c .before .before .before .before .before .next-byte .result) (comes (c .before .before .before .before .before .before .before .before .before .args .line .now) (c .before .before .before .before .before .before .before .before .before .args .at) (c .before .before .before .before .before .before .before .before .before .args .end) (c .before .before .before .before .before .before .before .before .loop .line) (c .before .before .before .before .before .before .before .before .loop .n) (c .before .before .before .before .before .before .before .before .loop .b) (c .before .before .before .before .before .before .before .before .loop .inv) (c .before .before .before .before .before .next-byte .result) (c .before .before .before .before .before .next-byte .ensures)) (c .before .before .if2 .left) _ _ (c .put .ensures .0) (c .put .ensures .1)
+loop-again c = goes-on (c .before .before .before .before .before .before .before .before .before .args .line .now) (c .before .before .before .before .before .before .before .before .before .args .buffer .now) (c .before .before .before .before .before .before .before .before .before .args .at) (c .before .before .before .before .before .before .before .before .before .args .end) (c .before .before .before .before .before .before .before .before .loop .line) (c .before .before .before .before .before .before .before .before .loop .buffer) (c .before .before .before .before .before .before .before .before .loop .n) (c .before .before .before .before .before .before .before .before .loop .b) (c .before .before .before .before .before .before .before .before .loop .inv) (c .before .before .before .before .before .next-byte .last .0) (c .before .before .before .before .before .next-byte .result) (c .before .before .before .before .before .next-byte .ensures) (c .before .before .before .before .if1 .left) (c .before .before .if2 .left) _ _ (c .put .ensures .0) (c .put .ensures .1)
 
 line-of-requires-3 : tie.Need-line-of-requires-3 Inv-loop μ-loop
 line-of-requires-3 c κs = search needs
 
 returns-3 : tie.Need-returns-3 Inv-loop μ-loop
-returns-3 c = line-read (c .before .before .before .args .line .now) (c .before .before .before .args .at) (c .before .before .before .args .end) (c .before .before .loop .line) (c .before .before .loop .n) (c .before .before .loop .b) (c .before .before .loop .inv) _ _ (c .line-of3 .ensures)
+returns-3 c = stops (c .before .before .before .args .line .now) (c .before .before .before .args .buffer .now) (c .before .before .before .args .at) (c .before .before .before .args .end) (c .before .before .loop .line) (c .before .before .loop .buffer) (c .before .before .loop .n) (c .before .before .loop .b) (c .before .before .loop .inv) _ _ (c .line-of3 .ensures)
 
 pub read-line-spec : {M : Type 1} → statement M
 read-line-spec =
