@@ -8,9 +8,9 @@ use native.Mathlib.Numerals.{add-one}
 use native.Mathlib.Omega.{arith}
 use borrow.Author.Tests.{ltb-true, ne-eqb}
 use lib.Dec.{ltb, eqb}
-use lib.ListN.{length, getD, take, drop, length-take, drop-of-length-le}
+use lib.ListN.{length, getD, take, length-take, drop-of-length-le}
 use lib.Seq.{drop-cons, getD-take}
-use Rattle.sudoku.specs.Tests.{pick, both}
+use Rattle.sudoku.specs.Tests.{pick}
 use Rattle.sudoku.proofs.Walks.{by-test, pick-true, pick-false, both-left, both-right, both-true}
 use Rattle.terminal.specs.declared.Byte.{Byte}
 use Rattle.terminal.specs.declared.Line.{Line}
