@@ -4,7 +4,7 @@
 -- Assumes nothing.
 use Prim.Native.Nat.{ℕ, _+_, _-_}
 use mathlib.Core.Path.{_≡_, refl, sym, ap, subst, _∙_}
-use mathlib.Core.List.{List, [], _∷_, map}
+use mathlib.Core.List.{List, [], _∷_, _++_, map}
 use native.Mathlib.Omega.{arith}
 use lib.ListN.{length, take, replicate, length-replicate}
 use Rattle.puzzle.specs.declared.Given.{Given}
@@ -12,6 +12,7 @@ use Rattle.puzzle.specs.Refusals.{accepted}
 use Rattle.journal.specs.Limits.{journalBytes, checkMemory, recordBytes}
 use Rattle.journal.specs.Bytes.{over}
 use Rattle.journal.specs.StoredChecks.{judged, storedAll}
+use Rattle.board.specs.Board.{boardOf}
 use Rattle.board.specs.Open.{Opened, openedFresh, noMoves, noChecks}
 use Rattle.journal.specs.declared.Asked.{Asked}
 use Rattle.record.specs.Items.{recordOf}
@@ -24,14 +25,14 @@ use Rattle.calls.specs.declared.Call.the-variants.{Make, Undo, Redo, Check}
 use Rattle.calls.specs.Session.{Session, after, started}
 use Rattle.demands.specs.Book.{Book, newBook, made, taken, withMoves, step, keep, asked, partsOfBook, recordIn, slotsIn}
 use Rattle.demands.specs.Opens.{Opens}
-use Rattle.demands.specs.Demand3.{reopenedBook, Writes, Kept, PlaysAs, AreBytes, Writable, Demand3}
+use Rattle.demands.specs.Demand3.{boardIn, reopenedBook, Writes, Kept, Reached, bookOf as reachedBook, PlaysAs, AreBytes, Writable, Demand3}
 use Rattle.demands.proofs.Opening.{opens-exactly, opened}
 use Rattle.demands.proofs.Refusals.{after-step}
-use Rattle.demands.proofs.Making.{bookOf}
+use Rattle.demands.proofs.Making.{bookOf, keep-append}
 use Rattle.demands.proofs.Good.{Good, good-new, good-keep}
 use Rattle.demands.proofs.Held.{Held, starts-with, laid-held}
 use Rattle.demands.proofs.Steps.{sessionOf}
-use Rattle.demands.proofs.Lists.{AgreesAll, agrees-all, fresh-session, fresh-held}
+use Rattle.demands.proofs.Lists.{AgreesAll, agrees-all, fresh-session, fresh-held, of-book}
 use Rattle.demands.proofs.Writing.{book-short, book-writes}
 use Rattle.demands.proofs.Reopening.{book-reopens}
 use Rattle.demands.proofs.CallsFor.{callsFor, makes-record}
@@ -105,6 +106,45 @@ plays-on k solution journal checks calls g e j c =
     ∙ ap started (book-reopens k g journal checks j c)
     ∙ reopened-session k))
     (plays-as k (over noMoves 0 (slotsIn k)) (over noChecks 0 (storedAll (k .checks))) calls g (laid-held k g))
+
+-- ---- what calls reach
+
+reached-calls : (s : Session) (calls : List Call) → Reached s → Reached (after s calls)
+unfolding reachedBook
+reached-calls s calls r =
+    record {
+      givens = r .givens;
+      solution = r .solution;
+      opens = r .opens;
+      calls = r .calls ++ calls;
+      kept =
+          subst (λ (k : Book). Kept (after s calls) k) (sym (keep-append (newBook (r .givens) (r .solution)) (r .calls) calls))
+          (of-book s r (λ (x : Session) (k : Book). Kept (after x calls) (keep k calls)) (λ k journal checks g h. plays-as k journal checks calls g h .kept));
+    }
+
+-- the board holds the book's solution
+board-solution : (s : Session) (r : Reached s) → s .board .solution ≡ reachedBook s r .solution
+unfolding boardIn boardOf
+board-solution s r = of-book s r (λ (x : Session) (k : Book). x .board .solution ≡ k .solution) (λ k journal checks g h. refl)
+
+reached-fresh : (givens : List Given) (solution : List ℕ) → Opens givens solution → Reached (started (openedFresh givens solution))
+unfolding after
+reached-fresh givens solution o = record { givens = givens; solution = solution; opens = o; calls = []; kept = played givens solution [] o .kept }
+
+reached-reopened : (s : Session) (r : Reached s) (journal checks : List ℕ) → length journal ≡ journalBytes → length checks ≡ checkMemory
+    → Reached (started (reopenOf (recordIn (reachedBook s r)) (s .board .solution) journal checks))
+unfolding reachedBook after keep
+reached-reopened s r journal checks j c =
+    record {
+      givens = r .givens;
+      solution = r .solution;
+      opens = r .opens;
+      calls = r .calls;
+      kept =
+          plays-on (keep (newBook (r .givens) (r .solution)) (r .calls)) (s .board .solution) journal checks []
+          (good-keep (newBook (r .givens) (r .solution)) (r .calls) (good-new (r .givens) (r .solution) (r .opens))) (board-solution s r) j c
+          .kept;
+    }
 
 -- ---- bytes that reopen are written by some calls
 
@@ -205,6 +245,9 @@ demand3 =
           λ givens solution calls more journal checks o j c.
           plays-on (keep (newBook givens solution) calls) solution journal checks more (good-keep (newBook givens solution) calls (good-new givens solution o))
           (sym (same-solution givens solution calls)) j c;
+      reached-fresh = reached-fresh;
+      reached-calls = reached-calls;
+      reached-reopened = reached-reopened;
       exactly =
           λ bytes solution journal checks are j c. (
             (λ h. are-written bytes solution are (was-accepted bytes solution journal checks h)),

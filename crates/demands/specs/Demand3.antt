@@ -80,8 +80,8 @@ pub record Kept (s : Session) (k : Book) : Type 0 where
       → length checks ≡ checkMemory
       → reopenOf (recordIn k) (k .solution) journal checks ≡ reopenedBook k
 
--- a session that holds the book of some calls, from givens that open: what calls reach from
--- the fresh board (`played` below), and what they reach from a reopened one (`played-on`)
+-- a session that holds the book of some calls, from givens that open: what calls reach from the fresh board or
+-- from a reopened one, and so on (`reached-fresh`, `reached-calls` and `reached-reopened` below)
 pub record Reached (s : Session) : Type 0 where
   pub givens : List Given
   pub solution : List ℕ
@@ -137,6 +137,16 @@ pub record Demand3 : Type 0 where
       → length journal ≡ journalBytes
       → length checks ≡ checkMemory
       → PlaysAs (started (reopenOf (recordIn (keep (newBook givens solution) calls)) solution journal checks)) (keep (newBook givens solution) calls) more
+  pub reached-fresh :
+      (givens : List Given) (solution : List ℕ)
+      → Opens givens solution
+      → Reached (started (openedFresh givens solution))
+  pub reached-calls : (s : Session) (calls : List Call) → Reached s → Reached (after s calls)
+  pub reached-reopened :
+      (s : Session) (r : Reached s) (journal checks : List ℕ)
+      → length journal ≡ journalBytes
+      → length checks ≡ checkMemory
+      → Reached (started (reopenOf (recordIn (bookOf s r)) (s .board .solution) journal checks))
   pub exactly :
       (bytes solution journal checks : List ℕ)
       → AreBytes bytes
