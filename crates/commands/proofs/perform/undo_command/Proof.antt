@@ -11,7 +11,9 @@ wanted-requires : tie.Need-wanted-requires
 wanted-requires c κs = search needs
 
 returns : tie.Need-returns
-returns c = λ checks. no-undo (c .before .before .before .args .command) (c .before .before .before .args .board) (c .before .before .before .args .journal .now) checks (c .before .if1 .taken)
+returns c = λ checks.
+    let a = c .before .before .before .args in
+    no-undo (a .command) (a .board) (a .journal .now) checks (c .before .if1 .taken)
 
 undo-requires : tie.Need-undo-requires
 undo-requires c κs = search needs
@@ -21,7 +23,8 @@ settled-requires c κs = search needs
 
 returns-2 : tie.Need-returns-2
 returns-2 c = λ checks.
-    undoes (c .before .before .before .before .before .before .args .command) (c .before .before .before .before .before .before .args .board) (c .before .before .before .before .before .before .args .journal .now) checks (c .before .before .before .before .if1 .left) (c .before .before .before .if2 .taken) _
+    let a = c .before .before .before .before .before .before .args in
+    undoes (a .command) (a .board) (a .journal .now) checks (c .before .before .before .before .if1 .left) (c .before .before .before .if2 .taken) _
     (c .settled .ensures ∙ ap (λ (x : Answer). x .board) (c .before .undo .ensures))
 
 redo-requires : tie.Need-redo-requires
@@ -32,7 +35,8 @@ settled-requires-2 c κs = search needs
 
 returns-3 : tie.Need-returns-3
 returns-3 c = λ checks.
-    redoes (c .before .before .before .before .before .before .args .command) (c .before .before .before .before .before .before .args .board) (c .before .before .before .before .before .before .args .journal .now) checks (c .before .before .before .before .if1 .left) (c .before .before .before .if2 .left) _
+    let a = c .before .before .before .before .before .before .args in
+    redoes (a .command) (a .board) (a .journal .now) checks (c .before .before .before .before .if1 .left) (c .before .before .before .if2 .left) _
     (c .settled2 .ensures ∙ ap (λ (x : Answer). x .board) (c .before .redo .ensures))
 
 pub undo-command-spec : {M : Type 1} → statement M

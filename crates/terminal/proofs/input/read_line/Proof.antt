@@ -35,13 +35,21 @@ line-of-requires : tie.Need-line-of-requires Inv-loop μ-loop
 line-of-requires c κs = search needs
 
 returns : tie.Need-returns Inv-loop μ-loop
-returns c = input-ends (c .before .before .before .before .before .before .args .line .now) (c .before .before .before .before .before .before .args .buffer .now) (c .before .before .before .before .before .before .args .at) (c .before .before .before .before .before .before .args .end) (c .before .before .before .before .before .loop .line) (c .before .before .before .before .before .loop .buffer) (c .before .before .before .before .before .loop .n) (c .before .before .before .before .before .loop .b) (c .before .before .before .before .before .loop .inv) (c .before .before .next-byte .last .0) (c .before .before .next-byte .result) (c .before .before .next-byte .ensures) (c .before .if1 .taken) _ _ (c .line-of .ensures)
+returns c =
+    let a = c .before .before .before .before .before .before .args in
+    let turn = c .before .before .before .before .before .loop in
+    let next = c .before .before .next-byte in
+    input-ends (a .line .now) (a .buffer .now) (a .at) (a .end) (turn .line) (turn .buffer) (turn .n) (turn .b) (turn .inv) (next .last .0) (next .result) (next .ensures) (c .before .if1 .taken) _ _ (c .line-of .ensures)
 
 line-of-requires-2 : tie.Need-line-of-requires-2 Inv-loop μ-loop
 line-of-requires-2 c κs = search needs
 
 returns-2 : tie.Need-returns-2 Inv-loop μ-loop
-returns-2 c = line-ends (c .before .before .before .before .before .before .before .before .args .line .now) (c .before .before .before .before .before .before .before .before .args .buffer .now) (c .before .before .before .before .before .before .before .before .args .at) (c .before .before .before .before .before .before .before .before .args .end) (c .before .before .before .before .before .before .before .loop .line) (c .before .before .before .before .before .before .before .loop .buffer) (c .before .before .before .before .before .before .before .loop .n) (c .before .before .before .before .before .before .before .loop .b) (c .before .before .before .before .before .before .before .loop .inv) (c .before .before .before .before .next-byte .last .0) (c .before .before .before .before .next-byte .result) (c .before .before .before .before .next-byte .ensures) (c .before .before .before .if1 .left) (c .before .if2 .taken) _ _ (c .line-of2 .ensures)
+returns-2 c =
+    let a = c .before .before .before .before .before .before .before .before .args in
+    let turn = c .before .before .before .before .before .before .before .loop in
+    let next = c .before .before .before .before .next-byte in
+    line-ends (a .line .now) (a .buffer .now) (a .at) (a .end) (turn .line) (turn .buffer) (turn .n) (turn .b) (turn .inv) (next .last .0) (next .result) (next .ensures) (c .before .before .before .if1 .left) (c .before .if2 .taken) _ _ (c .line-of2 .ensures)
 
 put-requires : tie.Need-put-requires Inv-loop μ-loop
 put-requires c κs = search needs
@@ -53,13 +61,20 @@ loop-less : tie.Need-loop-less Inv-loop μ-loop
 loop-less c = search needs
 
 loop-again : tie.Need-loop-again Inv-loop μ-loop
-loop-again c = goes-on (c .before .before .before .before .before .before .before .before .before .args .line .now) (c .before .before .before .before .before .before .before .before .before .args .buffer .now) (c .before .before .before .before .before .before .before .before .before .args .at) (c .before .before .before .before .before .before .before .before .before .args .end) (c .before .before .before .before .before .before .before .before .loop .line) (c .before .before .before .before .before .before .before .before .loop .buffer) (c .before .before .before .before .before .before .before .before .loop .n) (c .before .before .before .before .before .before .before .before .loop .b) (c .before .before .before .before .before .before .before .before .loop .inv) (c .before .before .before .before .before .next-byte .last .0) (c .before .before .before .before .before .next-byte .result) (c .before .before .before .before .before .next-byte .ensures) (c .before .before .before .before .if1 .left) (c .before .before .if2 .left) _ _ (c .put .ensures .0) (c .put .ensures .1)
+loop-again c =
+    let a = c .before .before .before .before .before .before .before .before .before .args in
+    let turn = c .before .before .before .before .before .before .before .before .loop in
+    let next = c .before .before .before .before .before .next-byte in
+    goes-on (a .line .now) (a .buffer .now) (a .at) (a .end) (turn .line) (turn .buffer) (turn .n) (turn .b) (turn .inv) (next .last .0) (next .result) (next .ensures) (c .before .before .before .before .if1 .left) (c .before .before .if2 .left) _ _ (c .put .ensures .0) (c .put .ensures .1)
 
 line-of-requires-3 : tie.Need-line-of-requires-3 Inv-loop μ-loop
 line-of-requires-3 c κs = search needs
 
 returns-3 : tie.Need-returns-3 Inv-loop μ-loop
-returns-3 c = stops (c .before .before .before .args .line .now) (c .before .before .before .args .buffer .now) (c .before .before .before .args .at) (c .before .before .before .args .end) (c .before .before .loop .line) (c .before .before .loop .buffer) (c .before .before .loop .n) (c .before .before .loop .b) (c .before .before .loop .inv) _ _ (c .line-of3 .ensures)
+returns-3 c =
+    let a = c .before .before .before .args in
+    let turn = c .before .before .loop in
+    stops (a .line .now) (a .buffer .now) (a .at) (a .end) (turn .line) (turn .buffer) (turn .n) (turn .b) (turn .inv) _ _ (c .line-of3 .ensures)
 
 pub read-line-spec : {M : Type 1} → statement M
 read-line-spec =
