@@ -156,7 +156,7 @@ typedef struct {
     uint8_t digits[PAWDOKU_CELLS];         /* cell n stands at n - 1 */
     uint8_t given[PAWDOKU_CELLS];
     uint16_t notes[PAWDOKU_CELLS];         /* mark d is the bit of value 1 << d; under a digit it is kept, not shown */
-    uint8_t solution[PAWDOKU_CELLS];
+    uint8_t solution[PAWDOKU_CELLS];       /* for checks to compare with: who shows it shows the solution */
     uint8_t solved;
     size_t made;                           /* moves in the journal */
     size_t standing;                       /* of these, not undone */

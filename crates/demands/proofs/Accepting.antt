@@ -15,6 +15,7 @@ use Rattle.puzzle.specs.declared.Refusal.{Refusal}
 use Rattle.puzzle.specs.Givens.{isOn, givenCells}
 use Rattle.puzzle.specs.Refusals.{refusal, accepted, isAccepted, refusedIf, orElse}
 use Rattle.puzzle.proofs.Accepted.{if-passed, or-else-left, or-else-right}
+use Rattle.journal.specs.Limits.{journalBytes, checkMemory}
 use Rattle.journal.specs.Bytes.{over}
 use Rattle.journal.specs.State.{opening}
 use Rattle.board.specs.declared.Board.{Board}
@@ -26,7 +27,7 @@ use Rattle.record.specs.Reopen.{unreadable, replay, toPlay, checksRefusal, sett
 use Rattle.record.proofs.Readable.{Readable, readable}
 use Rattle.demands.specs.Book.{performAll, slotsFrom}
 use Rattle.demands.specs.Opens.{Opens}
-use Rattle.demands.proofs.Opening.{opens-of, lent-solution, went-on, not-by-length}
+use Rattle.demands.proofs.Opening.{opens-of, lent-journal, lent-checks, lent-solution, went-on, not-by-length}
 use Rattle.demands.proofs.Plays.{Plays}
 use Rattle.demands.proofs.Reached.{reached-given}
 use Rattle.demands.proofs.Replay.{allStand, replay-fresh, replay-fresh-plays}
@@ -50,6 +51,9 @@ module _ (bytes solution journal checks : List ℕ) (h : reopenOf bytes solution
   lengths : lentLengths solution journal checks ≡ true
   unfolding reopenOf
   lengths = not-by-length _ _ journal checks h
+
+  pub was-lent : (length journal ≡ journalBytes) × (length checks ≡ checkMemory)
+  was-lent = (lent-journal solution journal checks lengths, lent-checks solution journal checks lengths)
 
   lent : pick (isAccepted (unreadable bytes solution)) (replayed (partsOfBytes bytes) solution) (turnedAway (unreadable bytes solution)) .answer .refusal ≡ accepted
   unfolding reopenOf

@@ -12,7 +12,6 @@ use Rattle.puzzle.specs.Refusals.{accepted}
 use Rattle.journal.specs.Limits.{journalBytes, checkMemory, recordBytes}
 use Rattle.journal.specs.Bytes.{over}
 use Rattle.journal.specs.StoredChecks.{judged, storedAll}
-use Rattle.board.specs.Board.{boardOf}
 use Rattle.board.specs.Open.{Opened, openedFresh, noMoves, noChecks}
 use Rattle.journal.specs.declared.Asked.{Asked}
 use Rattle.record.specs.Items.{recordOf}
@@ -25,7 +24,7 @@ use Rattle.calls.specs.declared.Call.the-variants.{Make, Undo, Redo, Check}
 use Rattle.calls.specs.Session.{Session, after, started}
 use Rattle.demands.specs.Book.{Book, newBook, made, taken, withMoves, step, keep, asked, partsOfBook, recordIn, slotsIn}
 use Rattle.demands.specs.Opens.{Opens}
-use Rattle.demands.specs.Demand3.{boardIn, reopenedBook, Writes, Kept, Reached, bookOf as reachedBook, PlaysAs, AreBytes, Writable, Demand3}
+use Rattle.demands.specs.Demand3.{reopenedBook, Writes, Kept, Reached, bookOf as reachedBook, PlaysAs, AreBytes, Writable, Demand3}
 use Rattle.demands.proofs.Opening.{opens-exactly, opened}
 use Rattle.demands.proofs.Refusals.{after-step}
 use Rattle.demands.proofs.Making.{bookOf, keep-append}
@@ -36,7 +35,7 @@ use Rattle.demands.proofs.Lists.{AgreesAll, agrees-all, fresh-session, 
 use Rattle.demands.proofs.Writing.{book-short, book-writes}
 use Rattle.demands.proofs.Reopening.{book-reopens}
 use Rattle.demands.proofs.CallsFor.{callsFor, makes-record}
-use Rattle.demands.proofs.Accepting.{Accepted, was-accepted}
+use Rattle.demands.proofs.Accepting.{Accepted, was-lent, was-accepted}
 
 -- ---- what holds a book, and calls from it
 
@@ -122,29 +121,9 @@ reached-calls s calls r =
           (of-book s r (λ (x : Session) (k : Book). Kept (after x calls) (keep k calls)) (λ k journal checks g h. plays-as k journal checks calls g h .kept));
     }
 
--- the board holds the book's solution
-board-solution : (s : Session) (r : Reached s) → s .board .solution ≡ reachedBook s r .solution
-unfolding boardIn boardOf
-board-solution s r = of-book s r (λ (x : Session) (k : Book). x .board .solution ≡ k .solution) (λ k journal checks g h. refl)
-
 reached-fresh : (givens : List Given) (solution : List ℕ) → Opens givens solution → Reached (started (openedFresh givens solution))
 unfolding after
 reached-fresh givens solution o = record { givens = givens; solution = solution; opens = o; calls = []; kept = played givens solution [] o .kept }
-
-reached-reopened : (s : Session) (r : Reached s) (journal checks : List ℕ) → length journal ≡ journalBytes → length checks ≡ checkMemory
-    → Reached (started (reopenOf (recordIn (reachedBook s r)) (s .board .solution) journal checks))
-unfolding reachedBook after keep
-reached-reopened s r journal checks j c =
-    record {
-      givens = r .givens;
-      solution = r .solution;
-      opens = r .opens;
-      calls = r .calls;
-      kept =
-          plays-on (keep (newBook (r .givens) (r .solution)) (r .calls)) (s .board .solution) journal checks []
-          (good-keep (newBook (r .givens) (r .solution)) (r .calls) (good-new (r .givens) (r .solution) (r .opens))) (board-solution s r) j c
-          .kept;
-    }
 
 -- ---- bytes that reopen are written by some calls
 
@@ -198,6 +177,23 @@ module _ (bytes solution : List ℕ) (are : AreBytes bytes) (a : Accepted bytes 
             (played (partsOfBytes bytes .givens) solution theirs (a .opens) .kept .writes);
       }
 
+  -- and what they reopen to is what calls reach
+  reached-record : (journal checks : List ℕ) → length journal ≡ journalBytes → length checks ≡ checkMemory → Reached (started (reopenOf bytes solution journal checks))
+  unfolding after keep
+  reached-record journal checks j c =
+      record {
+        givens = partsOfBytes bytes .givens;
+        solution = solution;
+        opens = a .opens;
+        calls = theirs;
+        kept =
+            subst (λ (l : List ℕ). Kept (started (reopenOf l solution journal checks)) (keep (newBook (partsOfBytes bytes .givens) solution) theirs)) their-record
+            (plays-on (keep (newBook (partsOfBytes bytes .givens) solution) theirs) solution journal checks []
+            (good-keep (newBook (partsOfBytes bytes .givens) solution) theirs (good-new (partsOfBytes bytes .givens) solution (a .opens)))
+            (sym (same-solution (partsOfBytes bytes .givens) solution theirs)) j c
+            .kept);
+      }
+
 -- ---- bytes that some calls write reopen
 
 module _ (bytes solution : List ℕ) (w : Writable bytes solution) where
@@ -247,7 +243,10 @@ demand3 =
           (sym (same-solution givens solution calls)) j c;
       reached-fresh = reached-fresh;
       reached-calls = reached-calls;
-      reached-reopened = reached-reopened;
+      reached-reopened =
+          λ bytes solution journal checks are h.
+          reached-record bytes solution are (was-accepted bytes solution journal checks h) journal checks (was-lent bytes solution journal checks h .0)
+          (was-lent bytes solution journal checks h .1);
       exactly =
           λ bytes solution journal checks are j c. (
             (λ h. are-written bytes solution are (was-accepted bytes solution journal checks h)),

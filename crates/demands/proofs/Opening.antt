@@ -113,11 +113,11 @@ lengths-right solution journal checks n j c =
     both-true _ _ (eq-eqb (length journal) journalBytes j) (both-true _ _ (eq-eqb (length checks) checkMemory c) (eq-eqb (length solution) 81 n))
 
 module _ (solution journal checks : List ℕ) (t : lentLengths solution journal checks ≡ true) where
-  lent-journal : length journal ≡ journalBytes
+  pub lent-journal : length journal ≡ journalBytes
   unfolding lentLengths
   lent-journal = eqb-true (length journal) journalBytes (both-left _ _ t)
 
-  lent-checks : length checks ≡ checkMemory
+  pub lent-checks : length checks ≡ checkMemory
   unfolding lentLengths
   lent-checks = eqb-true (length checks) checkMemory (both-left _ _ (both-right _ _ t))
 

@@ -143,10 +143,10 @@ pub record Demand3 : Type 0 where
       → Reached (started (openedFresh givens solution))
   pub reached-calls : (s : Session) (calls : List Call) → Reached s → Reached (after s calls)
   pub reached-reopened :
-      (s : Session) (r : Reached s) (journal checks : List ℕ)
-      → length journal ≡ journalBytes
-      → length checks ≡ checkMemory
-      → Reached (started (reopenOf (recordIn (bookOf s r)) (s .board .solution) journal checks))
+      (bytes solution journal checks : List ℕ)
+      → AreBytes bytes
+      → reopenOf bytes solution journal checks .answer .refusal ≡ accepted
+      → Reached (started (reopenOf bytes solution journal checks))
   pub exactly :
       (bytes solution journal checks : List ℕ)
       → AreBytes bytes

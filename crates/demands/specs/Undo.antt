@@ -18,6 +18,7 @@ use Rattle.board.specs.declared.Board.{Board}
 use Rattle.calls.specs.declared.Call.{Call}
 use Rattle.calls.specs.declared.Call.the-variants.{Make, Undo, Redo}
 use Rattle.calls.specs.Session.{Session, Said, after, answers}
+use Rattle.calls.specs.Encoded.{said}
 use Rattle.demands.specs.Demand3.{Reached}
 
 -- the digit at a cell after a move: a place puts its digit at its target,
@@ -40,12 +41,12 @@ markAfter b (Erase row column) cell d = marked b cell d
 markAfter b (WriteMark row column digit) cell d = either (marked b cell d) (both (eqb d digit) (eqb cell (cellOf row column)))
 markAfter b (StrikeMark row column digit) cell d = both (marked b cell d) (not (both (eqb d digit) (eqb cell (cellOf row column))))
 
--- what calls are answered where each is accepted, or where the last is refused by a number
+-- what an accepted call is answered that is no check, and what one that is refused by a number
 unfoldable pub yes : Said
-yes = record { refusal = accepted; right = false }
+yes = said accepted false
 
 unfoldable pub no : ℕ → Said
-no n = record { refusal = refusal n 0 0; right = false }
+no n = said (refusal n 0 0) false
 
 -- the board after a move, at each cell and for each mark; givens, solution and checks stay
 pub record Does (b : Board) (m : Move) (now : Board) : Type 0 where
