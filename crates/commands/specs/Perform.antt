@@ -22,6 +22,32 @@ use Rattle.files.specs.Disk.{Content}
 use Rattle.files.specs.Load.{Left, loadOf}
 use Rattle.commands.specs.declared.Numbers.{Numbers}
 
+-- ---- the letters of the commands that change something, as texts' Commands has them: p m s e, u r, c, o
+
+abbrev pub letterPlace : ℕ
+letterPlace = 112
+
+abbrev pub letterMark : ℕ
+letterMark = 109
+
+abbrev pub letterStrike : ℕ
+letterStrike = 115
+
+abbrev pub letterErase : ℕ
+letterErase = 101
+
+abbrev pub letterUndo : ℕ
+letterUndo = 117
+
+abbrev pub letterRedo : ℕ
+letterRedo = 114
+
+abbrev pub letterCheck : ℕ
+letterCheck = 99
+
+abbrev pub letterOpen : ℕ
+letterOpen = 111
+
 -- ---- the numbers after a command
 
 -- a number as a byte: what is no byte is no row, no column and no digit either, and 255 is none of these
@@ -56,17 +82,17 @@ numbersOf line c wanted =
 
 -- p place, m mark, s strike, e erase
 unfoldable pub isMove : ℕ → Bool
-isMove verb = either (eqb verb 112) (either (eqb verb 109) (either (eqb verb 115) (eqb verb 101)))
+isMove verb = either (eqb verb letterPlace) (either (eqb verb letterMark) (either (eqb verb letterStrike) (eqb verb letterErase)))
 
 -- how many numbers a move wants: erase two, any other three
 unfoldable pub wantedBy : ℕ → ℕ
-wantedBy verb = pick (eqb verb 101) 2 3
+wantedBy verb = pick (eqb verb letterErase) 2 3
 
 unfoldable pub moveNamed : ℕ → Numbers → Move
 moveNamed verb n =
-    pick (eqb verb 112) (Place (n .row) (n .column) (n .digit))
-    (pick (eqb verb 109) (WriteMark (n .row) (n .column) (n .digit))
-    (pick (eqb verb 115) (StrikeMark (n .row) (n .column) (n .digit)) (Erase (n .row) (n .column))))
+    pick (eqb verb letterPlace) (Place (n .row) (n .column) (n .digit))
+    (pick (eqb verb letterMark) (WriteMark (n .row) (n .column) (n .digit))
+    (pick (eqb verb letterStrike) (StrikeMark (n .row) (n .column) (n .digit)) (Erase (n .row) (n .column))))
 
 unfoldable pub moveCall : List ℕ → Command → Decoded
 moveCall line c =
@@ -75,10 +101,10 @@ moveCall line c =
 
 -- u undo, r redo
 unfoldable pub isUndo : ℕ → Bool
-isUndo verb = either (eqb verb 117) (eqb verb 114)
+isUndo verb = either (eqb verb letterUndo) (eqb verb letterRedo)
 
 unfoldable pub undoCall : Command → Decoded
-undoCall c = pick (eqb (c .words) 0) (Of (pick (eqb (c .verb) 117) Undo Redo)) Nothing
+undoCall c = pick (eqb (c .words) 0) (Of (pick (eqb (c .verb) letterUndo) Undo Redo)) Nothing
 
 -- c check
 unfoldable pub checkCall : List ℕ → Command → Decoded
@@ -90,7 +116,7 @@ checkCall line c =
 unfoldable pub commandCall : List ℕ → Command → Decoded
 commandCall line c =
     pick (isMove (c .verb)) (moveCall line c)
-    (pick (isUndo (c .verb)) (undoCall c) (pick (eqb (c .verb) 99) (checkCall line c) Nothing))
+    (pick (isUndo (c .verb)) (undoCall c) (pick (eqb (c .verb) letterCheck) (checkCall line c) Nothing))
 
 -- ---- what a command leaves
 
@@ -108,7 +134,7 @@ openLeaves line c file answers s =
 -- what the files hold matters to open alone. A command that names no call leaves all as it was
 unfoldable pub commandLeaves : List ℕ → Command → Content → Content → Session → Session
 commandLeaves line c file answers s =
-    pick (eqb (c .verb) 111) (openLeaves line c file answers s) (runOne s (commandCall line c) .left)
+    pick (eqb (c .verb) letterOpen) (openLeaves line c file answers s) (runOne s (commandCall line c) .left)
 
 -- what is left is what open leaves of some files
 pub record Opens (line : List ℕ) (c : Command) (before after : Session) : Type 0 where
