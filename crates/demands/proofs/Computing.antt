@@ -10,6 +10,7 @@ use Rattle.puzzle.specs.Refusals as refusals
 use Rattle.puzzle.specs.Givens as givens
 use Rattle.puzzle.specs.Puzzle as puzzle
 use Rattle.puzzle.specs.Vouch as vouch
+use Rattle.puzzle.specs.Text as text
 use Rattle.journal.specs.Bytes as bytes
 use Rattle.journal.specs.State as state
 use Rattle.journal.specs.Slots as slots
@@ -23,6 +24,7 @@ use Rattle.record.specs.Items as items
 use Rattle.record.specs.Scan as scan
 use Rattle.record.specs.Write as writing
 use Rattle.record.specs.Reopen as reopening
+use Rattle.lines.specs.Lines as lines
 use Rattle.calls.specs.Session as session
 use Rattle.demands.specs.Positions as positions
 
@@ -43,7 +45,7 @@ unfolding refusals.isAccepted refusals.refusedIf refusals.orElse refusals.firstR
 of-refusals = 0
 
 unfoldable of-givens : ℕ
-unfolding givens.triples givens.precedes givens.ascendFrom givens.ascending givens.putGivens givens.markGivens givens.digitsOf givens.givenCells givens.isGiven
+unfolding givens.triples givens.tripleBytes givens.givensBy givens.precedes givens.ascendFrom givens.ascending givens.putGivens givens.markGivens givens.digitsOf givens.givenCells givens.isGiven
 of-givens = 0
 
 unfoldable of-puzzle : ℕ
@@ -99,8 +101,12 @@ unfolding scan.body2 scan.body3 scan.body5 scan.byKind scan.takeItem scan.goOn s
 of-scan = 0
 
 unfoldable of-write : ℕ
-unfolding writing.givensFrom writing.givensOf writing.movesOf writing.askedOf writing.partsOf writing.unsoundCheck writing.unwritable writing.writeRefusal writing.writeOf
+unfolding writing.givensOf writing.movesOf writing.askedOf writing.partsOf writing.unsoundCheck writing.unwritable writing.writeRefusal writing.writeOf
 of-write = 0
+
+unfoldable of-lines : ℕ
+unfolding text.cellValue lines.isLine lines.valueAt lines.otherSort lines.lineRefusal lines.lineGivens lines.readRefusal lines.readLineOf lines.characterAt lines.lineOf lines.dotted lines.dottedLine
+of-lines = 0
 
 unfoldable of-reopen : ℕ
 unfolding reopening.anyLate reopening.oversized reopening.miscounted reopening.unreadable reopening.replay reopening.takeBackAll reopening.toPlay reopening.checkRefusal reopening.checksRefusal reopening.reopened reopening.settledRecord reopening.replayed reopening.reopenOf
@@ -115,5 +121,5 @@ unfolding positions.digitG positions.solutionG positions.givensFrom positions.gi
 of-positions = 0
 
 unfoldable pub computing : ℕ
-unfolding of-tests of-grid of-note of-refusals of-givens of-puzzle of-vouch of-bytes of-state of-slots of-counts of-stored-checks of-board of-open of-play of-check of-items of-scan of-write of-reopen of-session of-positions
+unfolding of-tests of-grid of-note of-refusals of-givens of-puzzle of-vouch of-bytes of-state of-slots of-counts of-stored-checks of-board of-open of-play of-check of-items of-scan of-write of-lines of-reopen of-session of-positions
 computing = 0

@@ -1,6 +1,7 @@
 pub mod Search
 pub mod Puzzle
 pub mod Givens
+pub mod GivensBy
 pub mod Accepted
 pub mod Order
 pub mod Posed

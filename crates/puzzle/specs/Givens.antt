@@ -1,12 +1,12 @@
 -- Givens of document 01 (proof.rs): triples (row, column, digit), strictly ascending in that order.
 -- Assumes nothing.
-use Prim.Native.Nat.{ℕ}
+use Prim.Native.Nat.{ℕ, zero, suc}
 use mathlib.Core.Bool.{Bool, true, not}
 use mathlib.Core.List.{List, [], _∷_}
 use lib.Dec.{ltb, eqb}
 use lib.ListN.{replicate}
-use Rattle.sudoku.specs.Tests.{both, either}
-use Rattle.sudoku.specs.Grid.{cellOf, at, put}
+use Rattle.sudoku.specs.Tests.{both, either, keep}
+use Rattle.sudoku.specs.Grid.{cellOf, rowOf, columnOf, at, put}
 use Rattle.puzzle.specs.declared.Given.{Given}
 
 abbrev pub given : ℕ → ℕ → ℕ → Given
@@ -18,6 +18,11 @@ triples [] = []
 triples (row ∷ []) = []
 triples (row ∷ column ∷ []) = []
 triples (row ∷ column ∷ digit ∷ bytes) = given row column digit ∷ triples bytes
+
+-- and the bytes that hold givens
+unfoldable pub tripleBytes : List Given → List ℕ
+tripleBytes [] = []
+tripleBytes (g ∷ gs) = g .row ∷ g .column ∷ g .digit ∷ tripleBytes gs
 
 -- g stands strictly before h in the order of row, column, digit
 unfoldable pub precedes : Given → Given → Bool
@@ -58,3 +63,8 @@ isOn flag = not (eqb flag 0)
 
 unfoldable pub isGiven : List ℕ → ℕ → Bool
 isGiven flags cell = isOn (at flags cell)
+
+-- of the n cells from `cell` on, in their order, those at which t holds, as givens with the digits of d
+unfoldable pub givensBy : (ℕ → Bool) → (ℕ → ℕ) → ℕ → ℕ → List Given
+givensBy t d zero cell = []
+givensBy t d (suc n) cell = keep (t cell) (given (rowOf cell) (columnOf cell) (d cell)) (givensBy t d n (suc cell))

@@ -19,6 +19,7 @@ ghost use Rattle.puzzle.specs.Puzzle.{isHeld, holdsDigit, conflicts as c
 pub mod answer;
 pub mod given_bytes;
 mod orders;
+pub mod text;
 mod units;
 pub mod vouch;
 

@@ -9,26 +9,18 @@ use native.Mathlib.Omega.{arith}
 use borrow.Author.Tests.{eqb-true}
 use lib.Dec.{eqb}
 use lib.ListN.{length}
-use Rattle.sudoku.specs.Tests.{bit, keep, count}
+use Rattle.sudoku.specs.Tests.{bit, count}
 use Rattle.sudoku.specs.Grid.{isCell, rowOf, columnOf, at}
-use Rattle.sudoku.proofs.Walks.{by-test, count-same}
+use Rattle.sudoku.proofs.Walks.{by-test, keep-true, keep-false, count-same}
 use Rattle.sudoku.proofs.Grid.{cell-to, is-cell, cell-of-is-cell, row-of-cell, column-of-cell}
 use Rattle.sudoku.proofs.Each.{Each}
 use Rattle.puzzle.specs.declared.Given.{Given}
-use Rattle.puzzle.specs.Givens.{isGiven, given, digitsOf, givenCells}
+use Rattle.puzzle.specs.Givens.{isGiven, given, givensBy, digitsOf, givenCells}
 use Rattle.puzzle.proofs.Givens.{cellIn, OnGrid, Rising, marked, digitFor, given-at, digit-at, rising-unmarked, rising-on, rising-rest, marked-here, marked-beyond, digit-here, digit-beyond, given-count}
 use Rattle.board.specs.declared.Board.{Board}
 use Rattle.board.specs.Board.{stateOf}
-use Rattle.record.specs.Write.{givensFrom, givensOf}
+use Rattle.record.specs.Write.{givensOf}
 use Rattle.record.specs.Reopen.{toPlay}
-
-keep-true : {A : Type 0} (t : Bool) (x : A) (l : List A) → t ≡ true → keep t x l ≡ x ∷ l
-unfolding keep
-keep-true t x l p = ap (λ (s : Bool). keep s x l) p
-
-keep-false : {A : Type 0} (t : Bool) (x : A) (l : List A) → t ≡ false → keep t x l ≡ l
-unfolding keep
-keep-false t x l p = ap (λ (s : Bool). keep s x l) p
 
 -- what a walk of the cells beyond c finds on a board: marks and digits as the givens have them
 record Found (b : Board) (c : ℕ) (gs : List Given) : Type 0 where
@@ -52,8 +44,8 @@ found-rest b c g gs e f =
           f .digits cell (omega arith) u (marked-beyond g gs cell (omega arith) ∙ t) ∙ digit-beyond g gs cell (omega arith);
     }
 
-walk : (b : Board) (n c : ℕ) (gs : List Given) → suc c + n ≡ 82 → Each OnGrid gs → Rising c gs → Found b c gs → givensFrom b n (suc c) ≡ gs
-unfolding givensFrom Each Rising
+walk : (b : Board) (n c : ℕ) (gs : List Given) → suc c + n ≡ 82 → Each OnGrid gs → Rising c gs → Found b c gs → givensBy (isGiven (b .given)) (at (b .digits)) n (suc c) ≡ gs
+unfolding givensBy Each Rising
 walk b zero c [] e ps r f = refl
 walk b zero c (g ∷ gs) e ps r f = absurd (omega (arith, r .0, cell-to (cellIn g) (cell-of-is-cell _ _ (ps .0))))
 walk b (suc n) c [] e ps r f =

@@ -1,19 +1,19 @@
 -- A record laid into the output, item after item: what is left to lay decides, and how many bytes the groups have.
 -- Assumes nothing.
-use Prim.Native.Nat.{ℕ, zero, suc, _+_, _-_, _*_, _≤_, _<_}
+use Prim.Native.Nat.{ℕ, _+_, _-_, _*_, _≤_, _<_}
 use mathlib.Core.Path.{_≡_, refl, sym, ap, _∙_}
-use mathlib.Core.Bool.{Bool, true, false}
 use mathlib.Core.List.{List, [], _∷_, _++_, map}
 use native.Mathlib.Nat.{sub-eq-zero-of-le}
 use native.Mathlib.Numerals.{add-one}
 use native.Mathlib.Omega.{arith}
 use lib.ListN.{length, length-append}
 use Rattle.puzzle.specs.Givens.{isGiven}
-use Rattle.sudoku.specs.Tests.{pick, keep, bit, count, listed}
+use Rattle.sudoku.specs.Tests.{count, listed}
 use Rattle.sudoku.specs.Grid.{at}
 use Rattle.sudoku.proofs.Walks.{left-one}
 use Rattle.sudoku.proofs.Listed.{length-listed}
 use Rattle.puzzle.specs.declared.Given.{Given as Setters}
+use Rattle.puzzle.proofs.GivensBy.{bytesLeft, bytes-turn, bytes-none, by-length}
 use Rattle.journal.specs.Limits.{checkItemBytes, givenItemBytes, undoneItemBytes}
 use Rattle.journal.specs.declared.Move.{Move}
 use Rattle.journal.specs.Bytes.{low, second, over}
@@ -21,11 +21,10 @@ use Rattle.journal.specs.Slots.{slotAt, moveOf}
 use Rattle.journal.specs.StoredChecks.{askedAt}
 use Rattle.journal.proofs.Memory.{over-nil, over-join, length-over}
 use Rattle.board.specs.declared.Board.{Board}
-use Rattle.board.specs.Board.{stateOf}
 use Rattle.record.specs.declared.Item.{Item}
 use Rattle.record.specs.declared.Item.the-variants.{Played}
 use Rattle.record.specs.Items.{encode, encodeAll, givenItem, checkItem, recordOf}
-use Rattle.record.specs.Write.{givensFrom, givensOf, movesOf, askedOf, partsOf}
+use Rattle.record.specs.Write.{givensOf, movesOf, askedOf, partsOf}
 use Rattle.record.specs.Code.Laying.{givenBytes, givensBytes, movesBytes, checksBytes}
 use Rattle.record.proofs.Lengths.{length-moves, record-joined, record-length}
 
@@ -105,41 +104,27 @@ checks-left checks n = ap (λ (k : ℕ). encodeAll (map checkItem (listed (asked
 
 -- ---- givens
 
-unfoldable pub givensLeft : Board → ℕ → List ℕ
-givensLeft b cell = encodeAll (map givenItem (givensFrom b (82 - cell) cell))
+-- the bytes of givens as items
+abbrev itemsBytes : List Setters → List ℕ
+itemsBytes gs = encodeAll (map givenItem gs)
 
-kept : (t : Bool) (g : Setters) (gs : List Setters)
-    → encodeAll (map givenItem (keep t g gs)) ≡ pick t (encode (givenItem g)) [] ++ encodeAll (map givenItem gs)
-unfolding keep pick encodeAll
-kept true g gs = refl
-kept false g gs = refl
+module _ (b : Board) where
+  unfoldable pub givensLeft : ℕ → List ℕ
+  givensLeft cell = bytesLeft itemsBytes (isGiven (b .given)) (at (b .digits)) cell
 
-pub givens-turn : (b : Board) (cell : ℕ) → cell < 82 → givensLeft b cell ≡ givenBytes (b .given) (b .digits) cell ++ givensLeft b (cell + 1)
-unfolding givensLeft givensFrom givenBytes stateOf givenItem encode
-givens-turn b cell h =
-    ap (λ (n : ℕ). encodeAll (map givenItem (givensFrom b n cell))) (left-one 82 cell h)
-    ∙ kept _ _ (givensFrom b (82 - (cell + 1)) (suc cell))
-    ∙ ap (λ (k : ℕ). givenBytes (b .given) (b .digits) cell ++ encodeAll (map givenItem (givensFrom b (82 - (cell + 1)) k))) (sym (add-one cell))
+  pub givens-turn : (cell : ℕ) → cell < 82 → givensLeft cell ≡ givenBytes (b .given) (b .digits) cell ++ givensLeft (cell + 1)
+  unfolding givensLeft givenBytes encodeAll encode givenItem
+  givens-turn cell h = bytes-turn itemsBytes (λ g. encode (givenItem g)) refl (λ g gs. refl) (isGiven (b .given)) (at (b .digits)) cell h
 
-pub givens-none : (b : Board) (cell : ℕ) → 82 ≤ cell → givensLeft b cell ≡ []
-unfolding givensLeft givensFrom encodeAll
-givens-none b cell h = ap (λ (n : ℕ). encodeAll (map givenItem (givensFrom b n cell))) (sub-eq-zero-of-le h)
+  pub givens-none : (cell : ℕ) → 82 ≤ cell → givensLeft cell ≡ []
+  unfolding givensLeft encodeAll
+  givens-none cell h = bytes-none itemsBytes (λ g. encode (givenItem g)) refl (λ g gs. refl) (isGiven (b .given)) (at (b .digits)) cell h
 
-pub givens-all : (b : Board) → givensBytes b ≡ givensLeft b 1
-unfolding givensBytes givensOf givensLeft
-givens-all b = refl
+  pub givens-all : givensBytes b ≡ givensLeft 1
+  unfolding givensBytes givensOf givensLeft
+  givens-all = refl
 
 -- ---- lengths
-
-keep-length : {A : Type 0} (t : Bool) (x : A) (l : List A) → length (keep t x l) ≡ bit t + length l
-unfolding keep bit
-keep-length true x l = omega arith
-keep-length false x l = omega arith
-
-pub count-of-givens : (b : Board) (n cell : ℕ) → length (givensFrom b n cell) ≡ count (isGiven (b .given)) n cell
-unfolding givensFrom count stateOf
-count-of-givens b zero cell = refl
-count-of-givens b (suc n) cell = keep-length _ _ (givensFrom b n (suc cell)) ∙ ap (λ (k : ℕ). bit (isGiven (b .given) cell) + k) (count-of-givens b n (suc cell))
 
 module _ (b : Board) (journal checks : List ℕ) where
   pub length-record : length (recordOf (partsOf b journal checks))
@@ -149,7 +134,7 @@ module _ (b : Board) (journal checks : List ℕ) where
       omega (
         arith,
         record-length (partsOf b journal checks),
-        count-of-givens b 81 1,
+        by-length (isGiven (b .given)) (at (b .digits)) 81 1,
         length-moves (movesOf journal (b .made)),
         length-listed (askedAt checks) (b .checks) 1,
       )

@@ -1,16 +1,16 @@
 -- Writing a record of document 01: refusals 1, 2, 14, 34; the record in the output, bytes beyond it as they were.
 -- Assumes nothing.
-use Prim.Native.Nat.{ℕ, zero, suc, _-_}
+use Prim.Native.Nat.{ℕ, _-_}
 use mathlib.Core.Bool.{not}
-use mathlib.Core.List.{List, []}
+use mathlib.Core.List.{List}
 use lib.Dec.{ltb, eqb}
 use lib.ListN.{length}
-use Rattle.sudoku.specs.Tests.{pick, both, keep, listed}
-use Rattle.sudoku.specs.Grid.{at, rowOf, columnOf}
+use Rattle.sudoku.specs.Tests.{pick, both, listed}
+use Rattle.sudoku.specs.Grid.{at}
 use Rattle.puzzle.specs.declared.Given.{Given as Setters}
 use Rattle.puzzle.specs.declared.Refusal.{Refusal}
 use Rattle.puzzle.specs.Refusals.{refusal, accepted, isAccepted, refusedIf, orElse, firstRefused}
-use Rattle.puzzle.specs.Givens.{given, isGiven}
+use Rattle.puzzle.specs.Givens.{isGiven, givensBy}
 use Rattle.journal.specs.declared.Move.{Move}
 use Rattle.journal.specs.Limits.{journalBytes, checkMemory}
 use Rattle.journal.specs.Bytes.{over}
@@ -23,13 +23,8 @@ use Rattle.record.specs.declared.Written.{Written}
 use Rattle.record.specs.Items.{Parts, recordOf}
 
 -- the givens of a board, in the order of their cells
-unfoldable pub givensFrom : Board → ℕ → ℕ → List Setters
-givensFrom b zero cell = []
-givensFrom b (suc n) cell =
-    keep (isGiven (b .given) cell) (given (rowOf cell) (columnOf cell) (at (b .digits) cell)) (givensFrom b n (suc cell))
-
 unfoldable pub givensOf : Board → List Setters
-givensOf b = givensFrom b 81 1
+givensOf b = givensBy (isGiven (b .given)) (at (b .digits)) 81 1
 
 -- the moves of slots 1 to made
 unfoldable pub movesOf : List ℕ → ℕ → List Move

@@ -318,10 +318,18 @@ count-every f (suc n) i p =
 
 -- ---- the list of those at which a test holds
 
-keep-length : (t : Bool) (i : ℕ) (l : List ℕ) → length (keep t i l) ≡ bit t + length l
+pub keep-length : {A : Type 0} (t : Bool) (x : A) (l : List A) → length (keep t x l) ≡ bit t + length l
 unfolding keep bit
-keep-length true i l = omega arith
-keep-length false i l = omega arith
+keep-length true x l = omega arith
+keep-length false x l = omega arith
+
+pub keep-true : {A : Type 0} (t : Bool) (x : A) (l : List A) → t ≡ true → keep t x l ≡ x ∷ l
+unfolding keep
+keep-true t x l p = ap (λ (s : Bool). keep s x l) p
+
+pub keep-false : {A : Type 0} (t : Bool) (x : A) (l : List A) → t ≡ false → keep t x l ≡ l
+unfolding keep
+keep-false t x l p = ap (λ (s : Bool). keep s x l) p
 
 pub length-among : (f : ℕ → Bool) (n i : ℕ) → length (among f n i) ≡ count f n i
 unfolding among count
