@@ -20,18 +20,16 @@ use Rattle.record.specs.Write.{Wrote, wrote}
 use Rattle.record.specs.Reopen.{reopenOf}
 use Rattle.record.proofs.WriteBack.{bytes-record, are-bytes}
 use Rattle.calls.specs.declared.Call.{Call}
-use Rattle.calls.specs.declared.Call.the-variants.{Make, Undo, Redo, Check}
 use Rattle.calls.specs.Session.{Session, after, started}
-use Rattle.demands.specs.Book.{Book, newBook, made, taken, withMoves, step, keep, asked, partsOfBook, recordIn, slotsIn}
+use Rattle.demands.specs.Book.{Book, newBook, made, keep, asked, partsOfBook, recordIn, slotsIn}
 use Rattle.demands.specs.Opens.{Opens}
 use Rattle.demands.specs.Demand3.{reopenedBook, Writes, Kept, Reached, bookOf as reachedBook, PlaysAs, AreBytes, Writable, Demand3}
 use Rattle.demands.proofs.Opening.{opens-exactly, opened}
-use Rattle.demands.proofs.Refusals.{after-step}
 use Rattle.demands.proofs.Making.{bookOf, keep-append}
 use Rattle.demands.proofs.Good.{Good, good-new, good-keep}
 use Rattle.demands.proofs.Held.{Held, starts-with, laid-held}
 use Rattle.demands.proofs.Steps.{sessionOf}
-use Rattle.demands.proofs.Lists.{AgreesAll, agrees-all, fresh-session, fresh-held, of-book}
+use Rattle.demands.proofs.Lists.{AgreesAll, agrees-all, keep-solution, fresh-session, fresh-held, of-book}
 use Rattle.demands.proofs.Writing.{book-short, book-writes}
 use Rattle.demands.proofs.Reopening.{book-reopens}
 use Rattle.demands.proofs.CallsFor.{callsFor, makes-record}
@@ -71,22 +69,6 @@ played givens solution calls o =
     (plays-as (newBook givens solution) noMoves noChecks calls (good-new givens solution o) (fresh-held givens solution))
 
 -- ---- and from a reopened one
-
--- no call changes the solution
-taken-solution : (k : Book) (c : Call) → taken k c .solution ≡ k .solution
-unfolding taken withMoves
-taken-solution k (Make m) = refl
-taken-solution k Undo = refl
-taken-solution k Redo = refl
-taken-solution k (Check row column) = refl
-
-step-solution : (k : Book) (c : Call) → step k c .solution ≡ k .solution
-step-solution k c = after-step k c (λ (b : Book). b .solution ≡ k .solution) refl (λ p. taken-solution k c)
-
-keep-solution : (k : Book) (cs : List Call) → keep k cs .solution ≡ k .solution
-unfolding keep
-keep-solution k [] = refl
-keep-solution k (c ∷ cs) = keep-solution (step k c) cs ∙ step-solution k c
 
 same-solution : (givens : List Given) (solution : List ℕ) (cs : List Call) → keep (newBook givens solution) cs .solution ≡ solution
 unfolding newBook

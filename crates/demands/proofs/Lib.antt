@@ -26,4 +26,6 @@ pub mod Solved
 pub mod PlayTheorem
 pub mod Readings
 pub mod Undo
+pub mod LineRows
+pub mod PuzzleLines
 pub mod Order

@@ -10,9 +10,11 @@ use Rattle.journal.specs.StoredChecks.{storedAll}
 use Rattle.board.specs.Board.{fresh}
 use Rattle.board.specs.Open.{openedFresh, noMoves, noChecks}
 use Rattle.calls.specs.declared.Call.{Call}
+use Rattle.calls.specs.declared.Call.the-variants.{Make, Undo, Redo, Check}
 use Rattle.calls.specs.Session.{Session, Said, after, answers, started}
-use Rattle.demands.specs.Book.{Book, newBook, made, performAll, stateIn, step, says, keep, saysAll, slotsFrom, slotsIn}
+use Rattle.demands.specs.Book.{Book, newBook, made, performAll, stateIn, taken, withMoves, step, says, keep, saysAll, slotsFrom, slotsIn}
 use Rattle.demands.specs.Demand3.{boardIn, Reached, bookOf}
+use Rattle.demands.proofs.Refusals.{after-step}
 use Rattle.demands.proofs.Good.{Good, good-new, good-step, good-keep}
 use Rattle.demands.proofs.Held.{Held}
 use Rattle.demands.proofs.Steps.{sessionOf, Agrees, agrees}
@@ -44,6 +46,28 @@ agrees-all k journal checks (c ∷ cs) g h =
     and-then k journal checks c cs (agrees k journal checks g h c)
     (agrees-all (step k c) (agrees k journal checks g h c .journalAfter) (agrees k journal checks g h c .checksAfter) cs (good-step k g c)
     (agrees k journal checks g h c .held))
+
+-- ---- what no call changes
+
+-- a part of the book that no accepted call changes
+module _ {A : Type 0} (part : Book → A) (same : (k : Book) (c : Call) → part (taken k c) ≡ part k) where
+  keep-same : (k : Book) (cs : List Call) → part (keep k cs) ≡ part k
+  unfolding keep
+  keep-same k [] = refl
+  keep-same k (c ∷ cs) = keep-same (step k c) cs ∙ after-step k c (λ (b : Book). part b ≡ part k) refl (λ p. same k c)
+
+taken-same : (k : Book) (c : Call) → (taken k c .givens ≡ k .givens) × (taken k c .solution ≡ k .solution)
+unfolding taken withMoves
+taken-same k (Make m) = (refl, refl)
+taken-same k Undo = (refl, refl)
+taken-same k Redo = (refl, refl)
+taken-same k (Check row column) = (refl, refl)
+
+pub keep-givens : (k : Book) (cs : List Call) → keep k cs .givens ≡ k .givens
+keep-givens k cs = keep-same (λ b. b .givens) (λ b c. taken-same b c .0) k cs
+
+pub keep-solution : (k : Book) (cs : List Call) → keep k cs .solution ≡ k .solution
+keep-solution k cs = keep-same (λ b. b .solution) (λ b c. taken-same b c .1) k cs
 
 -- ---- from the fresh board
 

@@ -8,6 +8,7 @@ use Rattle.demands.proofs.Undo.{undo-theorem}
 use Rattle.demands.proofs.Readings.{readings}
 use Rattle.demands.proofs.Positions.{positions}
 use Rattle.demands.proofs.Layouts.{layouts}
+use Rattle.demands.proofs.PuzzleLines.{line-theorem}
 
 pub order : Order
 order =
@@ -19,4 +20,5 @@ order =
       readings = readings;
       positions = positions;
       layouts = layouts;
+      lines = line-theorem;
     }

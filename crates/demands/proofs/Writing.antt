@@ -45,18 +45,19 @@ unfolding recordIn partsOfBook made
 book-short k g =
     record-short (partsOfBook k) (omega (arith, g .opens .left)) (g .few) (omega (arith, g .fewChecks, length-map (k .checks) asked))
 
-module _ (k : Book) (journal checks : List ℕ) (g : Good k) (h : Held journal checks k) where
+module _ (k : Book) (g : Good k) where
   same-given : boardIn k .given ≡ givenCells (k .givens)
   unfolding boardIn boardOf
   same-given = good-given k g
 
-  same-givens : givensOf (boardIn k) ≡ k .givens
+  pub same-givens : givensOf (boardIn k) ≡ k .givens
   unfolding boardIn boardOf stateIn opening digitAt
   same-givens =
       givens-kept (k .givens) (opens-grid (k .givens) (k .solution) (g .opens)) (opens-rising (k .givens) (k .solution) (g .opens)) (boardIn k) same-given
       (λ cell is t.
       digits-kept (opening (k .givens)) (take (k .standing) (k .moves)) cell is (opening-given (k .givens) (k .solution) (g .opens) cell is ∙ t) (standing-plays k g))
 
+module _ (k : Book) (journal checks : List ℕ) (g : Good k) (h : Held journal checks k) where
   same-moves : movesOf journal (made k) ≡ k .moves
   unfolding made slotsIn
   same-moves = journal-moves journal (opening (k .givens)) (k .moves) (h .slots)
@@ -71,7 +72,7 @@ module _ (k : Book) (journal checks : List ℕ) (g : Good k) (h : Held journal c
   same-parts : partsOf (boardIn k) journal checks ≡ partsOfBook k
   unfolding partsOf partsOfBook boardIn boardOf
   same-parts =
-      λ i. record { givens = same-givens i; moves = same-moves i; undone = made k - k .standing; checks = same-asked i }
+      λ i. record { givens = same-givens k g i; moves = same-moves i; undone = made k - k .standing; checks = same-asked i }
 
   check-sound : (c : Stored) → Admitted (k .givens) (k .solution) c → CheckSound (stateIn k) c
   check-sound c a =
@@ -82,7 +83,7 @@ module _ (k : Book) (journal checks : List ℕ) (g : Good k) (h : Held journal c
   unfolding journalRefusal boardIn boardOf stateOf made opening stateIn slotsIn
   journal-accepted fits e =
       or-else-of _ _ (accepts _ (ap (λ (n : ℕ). refusal n 0 0) (lent-passed k g fits e [] ∙ first-none)))
-      (journal-sound journal (opening (k .givens)) (k .moves) (h .slots) (stateIn k) (opening-fit (k .givens) (k .solution) (g .opens)) (g .plays) (sym same-given))
+      (journal-sound journal (opening (k .givens)) (k .moves) (h .slots) (stateIn k) (opening-fit (k .givens) (k .solution) (g .opens)) (g .plays) (sym (same-given k g)))
 
   record-same : length (recordOf (partsOf (boardIn k) journal checks)) ≡ length (recordIn k)
   unfolding recordIn

@@ -7,4 +7,5 @@ pub mod Positions
 pub mod PlayTheorem
 pub mod Readings
 pub mod Layouts
+pub mod PuzzleLines
 pub mod Order

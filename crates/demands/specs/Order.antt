@@ -8,6 +8,7 @@ use Rattle.demands.specs.Undo.{UndoTheorem}
 use Rattle.demands.specs.Readings.{ReadingsTheorem}
 use Rattle.demands.specs.Positions.{Positions}
 use Rattle.demands.specs.Layouts.{Layouts}
+use Rattle.demands.specs.PuzzleLines.{LineTheorem}
 
 pub record Order : Type 0 where
   -- Solved.antt: a board that calls reach is solved exactly when every row, column and box holds each of 1 to 9 once
@@ -28,3 +29,6 @@ pub record Order : Type 0 where
   pub positions : Positions
   -- Layouts.antt: slots, stored checks, record items, encoded calls and number 17's cases, byte by byte, computed
   pub layouts : Layouts
+  -- PuzzleLines.antt: a written line read back yields the board's givens; a read line that opens, written from the board
+  -- after any calls, is that line; what a line yields ascends; a refused call writes nothing
+  pub lines : LineTheorem

@@ -63,4 +63,4 @@ peerCells cell = record { cells = peersOf cell }
 
 -- which version of names, layouts and numbers the library has
 abbrev pub version : ℕ
-version = 1
+version = 2

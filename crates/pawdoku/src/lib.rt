@@ -6,6 +6,7 @@ use sudoku::PEERS_PER_CELL;
 
 pub mod asked;
 pub mod grid;
+pub mod line;
 pub mod list;
 pub mod played;
 pub mod saved;

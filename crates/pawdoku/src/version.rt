@@ -2,8 +2,8 @@
 ghost use mathlib.Core.Path.{_≡_};
 ghost use Rattle.pawdoku.specs.Library.{version};
 
-// Raised with each change of the boundary; the name of pawdoku_abi_1 goes with it.
-pub const VERSION: u32 = 1;
+// Raised with each change of the boundary; the name of pawdoku_abi_2 goes with it.
+pub const VERSION: u32 = 2;
 
 #[no_mangle]
 pub extern "C" fn pawdoku_version() -> u32
@@ -15,7 +15,7 @@ pub extern "C" fn pawdoku_version() -> u32
 // The header refers to the function that has its own version in the name, and nobody calls it: what was compiled for
 // another version finds no such function, so that a linker refuses it.
 #[no_mangle]
-pub extern "C" fn pawdoku_abi_1() -> u32
+pub extern "C" fn pawdoku_abi_2() -> u32
     ensures { λ r. ⌜ r ≡ version ⌝ }
 {
     VERSION

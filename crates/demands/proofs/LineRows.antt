@@ -1,0 +1,27 @@
+-- The rows of lines hold: each computes.
+-- Assumes nothing.
+use mathlib.Core.Path.{refl}
+use Rattle.demands.specs.PuzzleLines.{lineA, room, LineRows}
+use Rattle.demands.proofs.Computing.{computing}
+
+pub line-rows : LineRows
+unfolding computing lineA room
+line-rows =
+    record {
+      reads = refl;
+      line-feed = refl;
+      dots = refl;
+      writes = refl;
+      no-characters = refl;
+      eighty = refl;
+      eighty-two = refl;
+      carriage-return = refl;
+      both-ends = refl;
+      two-feeds = refl;
+      feed-as-81 = refl;
+      first-of-two = refl;
+      above-9 = refl;
+      too-short = refl;
+      before-36 = refl;
+      just-long-enough = refl;
+    }
