@@ -36,10 +36,10 @@ extern "C" {
  * but a comment changes, and stands here once.
  *
  * pawdoku_version() is the version of the library that is linked. It need not be asked: the library defines one
- * function with its version in the name, pawdoku_abi_1, and this header refers to the one of its own version, below.
+ * function with its version in the name, pawdoku_abi_2, and this header refers to the one of its own version, below.
  * So an object compiled for another version is refused by the linker, which names the function that is missing. That
  * costs the address of a function in each object, and no instruction. */
-#define PAWDOKU_VERSION 1
+#define PAWDOKU_VERSION 2
 
 #define PAWDOKU_JOIN_(a, b) a##b
 #define PAWDOKU_JOIN(a, b) PAWDOKU_JOIN_(a, b)
@@ -71,7 +71,9 @@ enum {
     PAWDOKU_SOLUTION_BYTES = 81,           /* row by row; 0 for an empty cell, which opening refuses */
     PAWDOKU_GIVEN_BYTES = 3,               /* row, column, digit; givens stand in ascending order */
     PAWDOKU_MAX_RECORD = 5955,             /* no record is longer */
-    PAWDOKU_CALL_BYTES = 4                 /* one call, and one answer, of pawdoku_play */
+    PAWDOKU_CALL_BYTES = 4,                /* one call, and one answer, of pawdoku_play */
+    PAWDOKU_LINE_BYTES = 81,               /* a puzzle line that is written: one character for each cell */
+    PAWDOKU_LINE_GIVENS = 243              /* room for the givens of a line: PAWDOKU_GIVEN_BYTES * PAWDOKU_CELLS */
 };
 
 /* The kind of a move: the first byte of a slot and of a move in a record, and in a reading. */
@@ -140,8 +142,10 @@ enum {
     PAWDOKU_CHECK_REFUSED = 31,            /* place: the check; inner: 3, 5 or 8 */
     PAWDOKU_CHECK_AFTER_NO_MOVE = 32,      /* place: the check */
     PAWDOKU_CHECK_WOULD_SOLVE = 33,        /* place: the check: a right digit where one cell was to play */
-    PAWDOKU_OUTPUT_TOO_SHORT = 34,
+    PAWDOKU_OUTPUT_TOO_SHORT = 34,         /* for what is written; reading a line: below PAWDOKU_LINE_GIVENS, always */
     PAWDOKU_NO_SUCH_MOVE = 35,             /* a reading of move 0 or of one above made */
+    PAWDOKU_NOT_A_LINE = 36,               /* neither 81 bytes nor 82 of which the last is a line feed */
+    PAWDOKU_NO_LINE_CHARACTER = 37,        /* place: the first character of another sort, counted from 1 */
     PAWDOKU_NO_CALL = 255                  /* pawdoku_play: four bytes that encode no call */
 };
 
@@ -176,7 +180,7 @@ typedef struct {
 
 typedef struct {
     pawdoku_refusal refusal;
-    size_t length;                         /* of the record; 0 beside a refusal */
+    size_t length;                         /* of the record, the givens or the line; 0 beside a refusal */
 } pawdoku_written;
 
 /* A move that is shown: its slot stands in the journal at `offset`, and its eight bytes were copied. */
@@ -289,6 +293,17 @@ pawdoku_answer pawdoku_reopen(const uint8_t *record, size_t record_length,
                               const uint8_t *solution, size_t solution_length,
                               uint8_t *journal, size_t journal_length,
                               uint8_t *checks, size_t checks_length);
+
+/* Puzzle lines, as setters mail them: 81 characters, row by row, '1' to '9' for a given, '.' or '0' for a blank, and at
+ * most one line feed behind them. A line is no proof that its puzzle has one solution, and opening still needs that. */
+
+/* Reads a line into givens: `length` bytes of the output, which can go straight to pawdoku_open. The output has at least
+ * PAWDOKU_LINE_GIVENS bytes, however few the givens are; those beyond them stay. Nothing in a line is passed over: one
+ * from a file with CR LF is refused by 36. Refused by 34, 36, 37. */
+pawdoku_written pawdoku_read_line(const uint8_t *line, size_t line_length, uint8_t *output, size_t output_length);
+/* Writes the board's givens as a line: a full stop for every other cell, whatever the player put there, and no line
+ * feed. Bytes of the output beyond its PAWDOKU_LINE_BYTES stay. Refused by 2, 34. */
+pawdoku_written pawdoku_write_line(pawdoku_board board, uint8_t *output, size_t output_length);
 
 /* The reading of move k, from 1 to made. Refused by 1, 2, 14, 35. */
 pawdoku_reading_answer pawdoku_reading(pawdoku_board board, const uint8_t *journal, size_t journal_length, size_t k);
