@@ -12,12 +12,12 @@ mod session;
 pub mod sys;
 
 pub use refusal::Reason;
-pub use session::Session;
+pub use session::{Session, givens_of_line};
 pub use sys::{Board, Refusal};
 
 /// The version of the library's boundary that this wrapper is written for: of the names, layouts and numbers of
 /// include/pawdoku.h. [`sys::version`] is that of the linked library; a library of another version does not link.
-pub const VERSION: u32 = 1;
+pub const VERSION: u32 = 2;
 /// Cells of the grid.
 pub const CELLS: usize = 81;
 /// Moves that a journal holds.
@@ -34,6 +34,10 @@ pub const JOURNAL_BYTES: usize = SLOT_BYTES * MAX_MOVES;
 pub const CHECK_MEMORY: usize = CHECK_BYTES * MAX_CHECKS;
 /// No record is longer.
 pub const MAX_RECORD: usize = 5955;
+/// Bytes of a puzzle line that is written: one character for each cell.
+pub const LINE_BYTES: usize = CELLS;
+/// Room for the givens of a line, however few they are.
+pub const LINE_GIVENS: usize = 3 * CELLS;
 
 /// The kinds of a move, in slots, readings and records.
 pub mod kind {

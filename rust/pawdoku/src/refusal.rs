@@ -74,6 +74,8 @@ reasons! {
     CheckWouldSolve = 33, "a check of a digit that would have solved the board";
     OutputTooShort = 34, "the output is too short";
     NoSuchMove = 35, "there is no such move";
+    NotALine = 36, "a puzzle line has 81 characters, with at most one line feed behind them";
+    NoLineCharacter = 37, "a puzzle line has only the digits, and a full stop or 0 for a blank";
 }
 
 impl Refusal {

@@ -1,7 +1,7 @@
 //! A board together with the memory that is lent to its calls.
 
 use crate::sys::{self, Answer, Board, CellAnswer, ReadingAnswer, Refusal};
-use crate::{CHECK_MEMORY, JOURNAL_BYTES, MAX_RECORD, SLOT_BYTES};
+use crate::{CHECK_MEMORY, JOURNAL_BYTES, LINE_BYTES, LINE_GIVENS, MAX_RECORD, SLOT_BYTES};
 
 /// A board in play: the board value, its journal and its check memory.
 ///
@@ -35,6 +35,29 @@ pub struct Session {
 
 /// A refusal of any call.
 type Refused<T> = Result<T, Refusal>;
+
+/// The givens of a puzzle line, as [`Session::open`] takes them: 81 characters, row by row, 1 to 9 for a given, a full
+/// stop or 0 for a blank, and at most one line feed behind them.
+///
+/// A line is no proof that its puzzle has one solution, and opening still needs that.
+///
+/// ```
+/// let solution = pawdoku::example_solution();
+/// let line = format!("12300{}\n", ".".repeat(76));
+/// let session = pawdoku::Session::open(&pawdoku::givens_of_line(line.as_bytes())?, &solution)?;
+/// assert_eq!(session.line()?, format!("123{}", ".".repeat(78)).as_bytes());
+/// # Ok::<(), pawdoku::Refusal>(())
+/// ```
+///
+/// # Errors
+///
+/// Refused by 36, 37.
+pub fn givens_of_line(line: &[u8]) -> Refused<Vec<[u8; 3]>> {
+    let mut givens = [[0; 3]; LINE_GIVENS / 3];
+    let read = sys::read_line(line, givens.as_flattened_mut());
+    read.refusal.into_result()?;
+    Ok(givens[..read.length / 3].to_vec())
+}
 
 impl Session {
     /// Opens a board on givens (row, column, digit), which stand in ascending order, with the puzzle's solution.
@@ -175,6 +198,16 @@ impl Session {
         written.refusal.into_result()?;
         record.truncate(written.length);
         Ok(record)
+    }
+
+    /// The givens as a puzzle line: 81 characters, a full stop for every other cell, and no line feed.
+    ///
+    /// # Errors
+    ///
+    /// None occurs on a session.
+    pub fn line(&self) -> Refused<[u8; LINE_BYTES]> {
+        let mut line = [0; LINE_BYTES];
+        sys::write_line(self.board(), &mut line).refusal.into_result().map(|()| line)
     }
 
     /// Move k, and digits and notes as they stood after it.

@@ -15,7 +15,7 @@ use core::mem::{MaybeUninit, offset_of, size_of};
 pub struct Refusal {
     /// 0, or why not.
     pub number: u8,
-    /// The cell, given, item, move, slot or check that is meant.
+    /// The cell, given, item, move, slot, check or character that is meant.
     pub place: usize,
     /// The number inside: why a move or a check of a record is refused, or the second cell of a conflict.
     pub inner: u8,
@@ -85,13 +85,13 @@ pub struct Checked {
     pub board: Board,
 }
 
-/// The answer of writing.
+/// The answer of writing, and of reading a line.
 #[repr(C)]
 #[derive(Debug, Clone, Copy, PartialEq, Eq)]
 pub struct Written {
     /// Why the call was refused, if it was.
     pub refusal: Refusal,
-    /// How long the record is.
+    /// How long the record is, or the line, or the givens of one.
     pub length: usize,
 }
 
@@ -216,7 +216,7 @@ mod c {
 
     unsafe extern "C" {
         pub fn pawdoku_version() -> u32;
-        pub fn pawdoku_abi_1() -> u32;
+        pub fn pawdoku_abi_2() -> u32;
         pub fn pawdoku_open(
             givens: *const u8,
             givens_length: usize,
@@ -308,6 +308,8 @@ mod c {
             checks: *mut u8,
             checks_length: usize,
         ) -> Answer;
+        pub fn pawdoku_read_line(line: *const u8, line_length: usize, output: *mut u8, output_length: usize) -> Written;
+        pub fn pawdoku_write_line(board: Board, output: *mut u8, output_length: usize) -> Written;
         pub fn pawdoku_reading(board: Board, journal: *const u8, journal_length: usize, k: usize) -> ReadingAnswer;
         pub fn pawdoku_cell(board: Board, row: u8, column: u8) -> CellAnswer;
         pub fn pawdoku_conflicts(board: Board, row: u8, column: u8) -> YesNo;
@@ -345,7 +347,7 @@ mod c {
 // What these declarations are of: the library has one function with its version in the name, and a library of another
 // version leaves this undefined, so that nothing links with it. Nobody calls it; the name goes with `VERSION`.
 #[used]
-static ABI: unsafe extern "C" fn() -> u32 = c::pawdoku_abi_1;
+static ABI: unsafe extern "C" fn() -> u32 = c::pawdoku_abi_2;
 
 // SAFETY, for every block below: the declarations are the header's (six with the answer's pointer shown), the structs
 // have its layout, every field is an integer (so that any bytes are a value), and each pointer with its length is a
@@ -541,6 +543,21 @@ pub fn reopen(record: &[u8], solution: &[u8], journal: &mut [u8], checks: &mut [
             checks.len(),
         )
     }
+}
+
+/// Reads a puzzle line into givens as [`open`] takes them; bytes of the output beyond them stay. The output has at least
+/// [`crate::LINE_GIVENS`] bytes. Refused by 34, 36, 37.
+#[must_use]
+#[inline]
+pub fn read_line(line: &[u8], output: &mut [u8]) -> Written {
+    unsafe { c::pawdoku_read_line(line.as_ptr(), line.len(), output.as_mut_ptr(), output.len()) }
+}
+
+/// Writes the board's givens as a puzzle line; bytes of the output beyond it stay. Refused by 2, 34.
+#[must_use]
+#[inline]
+pub fn write_line(board: &Board, output: &mut [u8]) -> Written {
+    unsafe { c::pawdoku_write_line(*board, output.as_mut_ptr(), output.len()) }
 }
 
 /// The reading of move k. Refused by 1, 2, 14, 35.

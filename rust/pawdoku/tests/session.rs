@@ -1,7 +1,8 @@
 //! The wrapper on the library: positions of the requirement's table through sessions, the leaves, and refused input.
 
 use pawdoku::{
-    Board, CHECK_MEMORY, JOURNAL_BYTES, Reason, Refusal, Session, VERSION, call, example_solution, kind, sys,
+    Board, CHECK_MEMORY, JOURNAL_BYTES, LINE_BYTES, LINE_GIVENS, Reason, Refusal, Session, VERSION, call,
+    example_solution, givens_of_line, kind, sys,
 };
 
 /// All of the solution but (9, 9).
@@ -120,6 +121,47 @@ fn any_board_and_any_memory_are_answered() {
     let answer = sys::open(&[1], &example_solution(), &mut journal, &mut checks);
     assert_eq!((answer.refusal.number, answer.board), (1, Board::ZERO));
     assert!(checks.iter().all(|&byte| byte == 1));
+}
+
+/// The example's first `count` cells as a line, the others blank.
+fn line_of(count: usize, blank: char) -> String {
+    let cell = |(at, digit): (usize, u8)| if at < count { char::from(b'0' + digit) } else { blank };
+    example_solution().into_iter().enumerate().map(cell).collect()
+}
+
+#[test]
+fn a_mailed_line_opens_and_is_written_again() {
+    let mailed = format!("{}\n", line_of(80, '0'));
+    let givens = givens_of_line(mailed.as_bytes()).expect("a line");
+    assert_eq!(givens, all_but_the_last());
+    let mut session = Session::open(&givens, &example_solution()).expect("opens");
+    assert_eq!(session.line().expect("written"), line_of(80, '.').as_bytes());
+    session.place(9, 9, 8).expect("placed");
+    assert_eq!(session.line().expect("written"), line_of(80, '.').as_bytes());
+    let full = givens_of_line(line_of(81, '.').as_bytes()).expect("a line");
+    let opened = Session::open(&full, &example_solution()).map(|_| ()).map_err(Refusal::reason);
+    assert_eq!(opened, Err(Some(Reason::NothingLeftToPlay)));
+}
+
+#[test]
+fn what_is_no_line_is_refused() {
+    let refused = |line: &str| {
+        let refusal = givens_of_line(line.as_bytes()).expect_err("no line");
+        (refusal.number, refusal.place)
+    };
+    let sound = line_of(30, '.');
+    for line in ["", &sound[..80], &format!("{sound}."), &format!("{sound}\r"), &format!("{sound}\r\n")] {
+        assert_eq!(refused(line), (36, 0), "{line:?}");
+    }
+    for (place, other) in [(1, " "), (40, "x"), (81, "\n"), (81, "/")] {
+        let line = format!("{}{other}{}", &sound[..place - 1], &sound[place..]);
+        assert_eq!(refused(&line), (37, place), "{line:?}");
+    }
+    let mut output = [7; LINE_GIVENS];
+    assert_eq!(sys::read_line(b"x", &mut output[1..]).refusal.number, 34);
+    assert_eq!(sys::write_line(&Board::ZERO, &mut []).refusal.number, 2);
+    assert_eq!(sys::write_line(empty().board(), &mut output[..LINE_BYTES - 1]).refusal.number, 34);
+    assert_eq!(output, [7; LINE_GIVENS]);
 }
 
 #[test]
