@@ -61,23 +61,17 @@ static void read_solution(uint8_t solution[PAWDOKU_SOLUTION_BYTES])
         solution[i] = (uint8_t)(SOLUTION[i] - '0');
 }
 
-/* The givens as the library takes them: row, column, digit, in ascending order. Answers how many bytes there are. */
-static size_t read_givens(uint8_t givens[PAWDOKU_CELLS * PAWDOKU_GIVEN_BYTES])
+/* The givens as opening takes them, read from the line that a setter mailed. Answers how many bytes there are. */
+static size_t read_givens(uint8_t givens[PAWDOKU_LINE_GIVENS])
 {
-    size_t length = 0;
-    for (int i = 0; i < PAWDOKU_CELLS; i++) {
-        if (GIVENS[i] == '.')
-            continue;
-        givens[length++] = (uint8_t)(i / 9 + 1);
-        givens[length++] = (uint8_t)(i % 9 + 1);
-        givens[length++] = (uint8_t)(GIVENS[i] - '0');
-    }
-    return length;
+    pawdoku_written read = pawdoku_read_line((const uint8_t *)GIVENS, strlen(GIVENS), givens, PAWDOKU_LINE_GIVENS);
+    expect(read.refusal.number == PAWDOKU_ACCEPTED, "the line is one");
+    return read.length;
 }
 
 static void open_puzzle(struct sitting *s)
 {
-    uint8_t givens[PAWDOKU_CELLS * PAWDOKU_GIVEN_BYTES];
+    uint8_t givens[PAWDOKU_LINE_GIVENS];
     uint8_t solution[PAWDOKU_SOLUTION_BYTES];
     size_t length = read_givens(givens);
     read_solution(solution);

@@ -11,7 +11,7 @@
 enum call {
     OPEN, REOPEN, PLACE, ERASE, WRITE_MARK, STRIKE_MARK, UNDO, REDO, CHECK, LATEST, NEXT, WRITE, READING, CELL, CONFLICTS, ACCEPTS_MARKS,
     HOLDS_PLAYERS_DIGIT, IS_SOLVED, IS_FULL, IS_CONSISTENT, CAN_UNDO, CAN_REDO, DIGITS_LEFT, PLAY, NOTE_CONTAINS, NOTE_LEN, NOTE_IS_EMPTY,
-    NOTE_DIGITS, CELL_OF, BAND, STACK, IS_PEER_OF, PEERS, VERSION, CALLS
+    NOTE_DIGITS, CELL_OF, BAND, STACK, IS_PEER_OF, PEERS, VERSION, READ_LINE, WRITE_LINE, CALLS
 };
 
 #define N(n) ((uint64_t)1 << (n))
@@ -56,6 +56,8 @@ static const struct {
     [IS_PEER_OF] = {"is_peer_of", 0},
     [PEERS] = {"peers", 0},
     [VERSION] = {"version", 0},
+    [READ_LINE] = {"read_line", N(34) | N(36) | N(37)},
+    [WRITE_LINE] = {"write_line", N(2) | N(34)},
 };
 
 static uint64_t seed;
@@ -92,7 +94,7 @@ static void count(enum call call, pawdoku_refusal r)
     if (r.number == PAWDOKU_ACCEPTED)
         accepted_of[call]++;
     must(r.number == 0 || (r.number < 64 && (LISTED[call].numbers & N(r.number)) != 0), call, "a number that is not listed for it");
-    uint64_t placed = N(14) | N(17) | UP_TO(23, 29) | UP_TO(31, 33);
+    uint64_t placed = N(14) | N(17) | UP_TO(23, 29) | UP_TO(31, 33) | N(37);
     must(((placed & N(r.number)) != 0) == (r.place != 0), call, "a place where none is said, or none where one is");
     uint64_t inner = N(14) | N(25) | N(29) | N(31);
     must((inner & N(r.number)) != 0 || r.inner == 0, call, "an inner number where none is said");

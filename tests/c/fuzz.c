@@ -1,17 +1,19 @@
-/* Hostile use of every exported function: boards that no call ever returned, wrong lengths, damaged journals and
- * records, any byte for a row, a column, a digit, any number for k. What must hold whatever is passed:
+/* Hostile use of every exported function: boards that no call ever returned, wrong lengths, damaged journals, records
+ * and puzzle lines, any byte for a row, a column, a digit, any number for k. What must hold whatever is passed:
  *
  *     no byte outside a lent slice is touched (lent.h), and none inside that the call has no business with;
  *     the number is one that include/pawdoku.h lists for the call, and the lowest of 1 to 4 that applies;
  *     a refused call leaves the board and the lent memory as they were (opening and reopening: zero, unless by 1);
  *     a board that comes back accepted is a board;
  *     a list of calls is answered as its calls are, one after the other, also on what is no board;
- *     a sitting that is saved reopens as it was.
+ *     a sitting that is saved reopens as it was;
+ *     a line is read and written as lines.h says it, and each of the two brings back what the other made.
  *
  *     fuzz CALLS [SEED]
  *
  * The same seed makes the same calls. Writes how many calls were made of each and how often each number was given. */
 #define _DEFAULT_SOURCE 1
+#include "lines.h"
 #include "records.h"
 
 #include <signal.h>
@@ -495,6 +497,113 @@ static void try_play(void)
     go_on(&p, &a.board);
 }
 
+/* ---- puzzle lines */
+
+/* Reads a line into an output as it is lent. */
+static pawdoku_written read_line(const uint8_t *line, size_t length)
+{
+    lend(&input, line, length);
+    pawdoku_written w = pawdoku_read_line(input.pointer, input.length, output.pointer, output.length);
+    count(READ_LINE, w.refusal);
+    look_at_guards(READ_LINE);
+    must(unchanged_from(&input, 0), READ_LINE, "the line was written");
+    struct expected e = reading_of_line();
+    must_be_expected(READ_LINE, w, &e);
+    return w;
+}
+
+static void try_read_line(void)
+{
+    static uint8_t line[LINE_MOST];
+    size_t length = any_line(line);
+    if (one_in(2))
+        length = damage_line(line, length);
+    lend_room(PAWDOKU_LINE_GIVENS);
+    read_line(line, length);
+}
+
+/* Every byte there is, as a line's first character, its last, one between, and behind it. */
+static void try_every_byte(void)
+{
+    static uint8_t line[LINE_MOST];
+    for (int byte = 0; byte < 256; byte++) {
+        const size_t places[4] = {0, PAWDOKU_CELLS - 1, 1 + below(PAWDOKU_CELLS - 2), PAWDOKU_CELLS};
+        for (size_t i = 0; i < 4; i++) {
+            any_line(line);
+            line[places[i]] = (uint8_t)byte;
+            lend_room(PAWDOKU_LINE_GIVENS);
+            read_line(line, places[i] == PAWDOKU_CELLS ? 82 : 81);
+        }
+    }
+}
+
+static pawdoku_written write_line(const pawdoku_board *b)
+{
+    pawdoku_written w = pawdoku_write_line(*b, output.pointer, output.length);
+    count(WRITE_LINE, w.refusal);
+    look_at_guards(WRITE_LINE);
+    struct expected e = writing_of_line(b);
+    must_be_expected(WRITE_LINE, w, &e);
+    return w;
+}
+
+/* A written line read back gives the board's givens: those that a sitting was opened with, and those of any board. */
+static void try_write_line(void)
+{
+    struct passed p = pass();
+    lend_room(PAWDOKU_LINE_BYTES);
+    if (write_line(&p.board).refusal.number != 0)
+        return;
+    uint8_t line[PAWDOKU_LINE_BYTES];
+    memcpy(line, output.bytes, sizeof line);
+    lend_room(PAWDOKU_LINE_GIVENS);
+    pawdoku_written read = read_line(line, sizeof line);
+    if (read.refusal.number != 0)
+        return;
+    size_t n = 0;
+    for (size_t i = 0; i < PAWDOKU_CELLS; i++)
+        if (p.board.given[i]) {
+            const uint8_t given[3] = {(uint8_t)(i / 9 + 1), (uint8_t)(i % 9 + 1), p.board.digits[i]};
+            must(n < read.length && memcmp(output.bytes + n, given, 3) == 0, WRITE_LINE, "read back as other givens");
+            n += 3;
+        }
+    must(n == read.length, WRITE_LINE, "read back with more givens");
+    if (p.own)
+        must(n == p.from->givens_length && memcmp(output.bytes, p.from->givens, n) == 0, WRITE_LINE, "not the opened ones");
+}
+
+/* Opens what was read from a sitting's line, and plays any list of calls on it. */
+static void open_and_play(struct sitting *s, size_t givens_length)
+{
+    s->givens_length = givens_length;
+    memcpy(s->givens, output.bytes, givens_length);
+    must(open_sitting(s), READ_LINE, "the givens of a line that opens are refused");
+    lend_list();
+    pawdoku_answer a = pawdoku_play(s->board, s->journal, sizeof s->journal, s->checks, sizeof s->checks, input.pointer,
+                                    input.length, answers.pointer, answers.length);
+    count(PLAY, a.refusal);
+    s->board = a.board;
+}
+
+/* A read line whose givens open a board, written after any play, is the line with full stops and without line feed. */
+static void try_line_and_back(void)
+{
+    static struct sitting s;
+    static uint8_t line[LINE_MOST];
+    s = sittings[below(SITTINGS)];
+    size_t length = line_of(&s, line);
+    lend_room(PAWDOKU_LINE_GIVENS);
+    pawdoku_written read = read_line(line, length);
+    if (read.refusal.number != 0)
+        return;
+    open_and_play(&s, read.length);
+    lend_room(PAWDOKU_LINE_BYTES);
+    if (write_line(&s.board).refusal.number != 0)
+        return;
+    for (size_t i = 0; i < PAWDOKU_CELLS; i++)
+        must(output.bytes[i] == (line[i] == '0' ? '.' : line[i]), WRITE_LINE, "another line than the one that was read");
+}
+
 /* ---- notes and the grid, which cannot be refused */
 
 static void try_notes(void)
@@ -541,11 +650,13 @@ static void try_grid(void)
 
 /* ---- the run */
 
-/* How often each is tried, of 32. */
-static void (*const TRIES[32])(void) = {
+/* How often each is tried, of 36. */
+enum { TRIED = 36 };
+static void (*const TRIES[TRIED])(void) = {
     try_move, try_move, try_move, try_move, try_move, try_move, try_move, try_move, try_back, try_back, try_back, try_back, try_check, try_check,
     try_shown, try_shown, try_reading, try_write, try_open, try_open, try_reopen, try_reopen, try_reopen, try_reopen, try_cell, try_cell_yes_no,
     try_board_yes_no, try_left, try_play, try_notes, try_grid, try_grid,
+    try_read_line, try_read_line, try_write_line, try_line_and_back,
 };
 
 static void report(void)
@@ -563,7 +674,7 @@ static void report(void)
 static int met_everything(void)
 {
     int met = refusals_by[PAWDOKU_NO_CALL] != 0;
-    for (int n = 0; n <= PAWDOKU_NO_SUCH_MOVE; n++)
+    for (int n = 0; n <= PAWDOKU_NO_LINE_CHARACTER; n++)
         met = met && refusals_by[n] != 0;
     for (int call = 0; call < CALLS; call++)
         met = met && accepted_of[call] != 0;
@@ -588,8 +699,9 @@ int main(int argc, char **argv)
     }
     for (size_t i = 0; i < SITTINGS; i++)
         restart(i);
+    try_every_byte();
     while (made_calls < wanted) {
-        TRIES[below(32)]();
+        TRIES[below(TRIED)]();
         size_t i = below(SITTINGS);
         if (one_in(sittings[i].board.solved ? 64 : 2000))
             restart(i);

@@ -245,6 +245,7 @@ static void make_sittings(void)
 
 static pawdoku_checked checked;
 static pawdoku_shown shown;
+static pawdoku_written written;
 static pawdoku_cell_answer cell;
 static pawdoku_yes_no yes_no;
 static pawdoku_left left;
@@ -278,6 +279,8 @@ ON_EVERY(all_check, checked = pawdoku_check(at.board, at.checks, sizeof at.check
 ON_EVERY(all_latest, shown = pawdoku_latest(at.board, at.journal, sizeof at.journal, slot, sizeof slot))
 ON_EVERY(all_next, shown = pawdoku_next(at.board, at.journal, sizeof at.journal, slot, sizeof slot))
 ON_EVERY(all_write, number += write_at(output))
+ON_EVERY(all_write_line, written = pawdoku_write_line(at.board, output, PAWDOKU_LINE_BYTES);
+         written = pawdoku_write_line(at.board, output, PAWDOKU_LINE_BYTES - 1))
 ON_EVERY(all_cell, cell = pawdoku_cell(at.board, 1, 1))
 ON_EVERY(all_conflicts, yes_no = pawdoku_conflicts(at.board, 1, 1))
 ON_EVERY(all_accepts_marks, yes_no = pawdoku_accepts_marks(at.board, 1, 1))
@@ -339,6 +342,21 @@ static void all_reopen(void)
     }
 }
 
+/* A line of 81 givens, which is read and laid down in whole; the same with its last character of another sort, or too
+ * short; and with too little room. */
+static void all_read_line(void)
+{
+    static uint8_t line[PAWDOKU_LINE_BYTES];
+    memset(line, '9', sizeof line);
+    written = pawdoku_read_line(line, sizeof line, output, PAWDOKU_LINE_GIVENS);
+    if (written.length != PAWDOKU_LINE_GIVENS)
+        fail("a line of 81 givens is not read");
+    written = pawdoku_read_line(line, sizeof line, output, PAWDOKU_LINE_GIVENS - 1);
+    written = pawdoku_read_line(line, sizeof line - 1, output, PAWDOKU_LINE_GIVENS);
+    line[PAWDOKU_LINE_BYTES - 1] = '\n';
+    written = pawdoku_read_line(line, sizeof line, output, PAWDOKU_LINE_GIVENS);
+}
+
 static void all_notes_and_grid(void)
 {
     number += pawdoku_note_contains(0x3fe, 9) + pawdoku_note_len(0x3fe) + pawdoku_note_is_empty(0x3fe);
@@ -364,6 +382,8 @@ static const struct {
     {"next", all_next},
     {"write", all_write},
     {"reopen", all_reopen},
+    {"read_line", all_read_line},
+    {"write_line", all_write_line},
     {"reading", all_reading},
     {"cell", all_cell},
     {"conflicts", all_conflicts},
