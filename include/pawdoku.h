@@ -297,9 +297,9 @@ pawdoku_answer pawdoku_reopen(const uint8_t *record, size_t record_length,
 /* Puzzle lines, as setters mail them: 81 characters, row by row, '1' to '9' for a given, '.' or '0' for a blank, and at
  * most one line feed behind them. A line is no proof that its puzzle has one solution, and opening still needs that. */
 
-/* Reads a line into givens: `length` bytes of the output, which can go straight to pawdoku_open. The output has at least
- * PAWDOKU_LINE_GIVENS bytes, however few the givens are; those beyond them stay. Nothing in a line is passed over: one
- * from a file with CR LF is refused by 36. Refused by 34, 36, 37. */
+/* Reads a line into givens: `length` bytes of the output, which can go straight to pawdoku_open. The output has
+ * PAWDOKU_LINE_GIVENS bytes or more, however few the givens are; those beyond them stay. Nothing in a line is passed
+ * over: one from a file with CR LF is refused by 36. Refused by 34, 36, 37. */
 pawdoku_written pawdoku_read_line(const uint8_t *line, size_t line_length, uint8_t *output, size_t output_length);
 /* Writes the board's givens as a line: a full stop for every other cell, whatever the player put there, and no line
  * feed. Bytes of the output beyond its PAWDOKU_LINE_BYTES stay. Refused by 2, 34. */

@@ -15,6 +15,7 @@ mod bytes;
 mod call;
 mod directed;
 mod grid;
+mod lines;
 mod list;
 mod ours;
 mod pair;

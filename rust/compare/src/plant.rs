@@ -5,6 +5,7 @@ use crate::bytes::refusal;
 use crate::call::Call;
 use crate::grid::{cell_of, peers};
 use crate::ours::Ours;
+use pawdoku::sys::Written;
 use pawdoku::{Board, Refusal};
 
 /// A planted error.
@@ -48,11 +49,15 @@ pub enum Plant {
     NotesLostOnReopening,
     /// An answer in a list of calls has another verdict.
     VerdictInList,
+    /// The character that is no line's is counted from 0.
+    CharacterFromZero,
+    /// A line has the player's digits too.
+    PlayersDigitInLine,
 }
 
 impl Plant {
     /// All errors, by name.
-    pub const ALL: [(&'static str, Self); 18] = [
+    pub const ALL: [(&'static str, Self); 20] = [
         ("own-note-cleared", Self::OwnNoteCleared),
         ("filled-peers-keep-marks", Self::FilledPeersKeepMarks),
         ("undo-marks-all-peers", Self::UndoMarksAllPeers),
@@ -71,6 +76,8 @@ impl Plant {
         ("late-check-refused", Self::LateCheckRefused),
         ("notes-lost-on-reopening", Self::NotesLostOnReopening),
         ("verdict-in-list", Self::VerdictInList),
+        ("character-from-zero", Self::CharacterFromZero),
+        ("players-digit-in-line", Self::PlayersDigitInLine),
     ];
 
     /// The error of this name.
@@ -171,6 +178,22 @@ impl Plant {
     pub fn listed(self, answers: &mut [u8]) {
         if self == Self::VerdictInList && answers.len() >= 4 {
             answers[3] ^= 1;
+        }
+    }
+
+    /// What becomes of the answer to a line that is read.
+    pub fn line_read(self, written: &mut Written) {
+        if self == Self::CharacterFromZero && written.refusal.number == 37 {
+            written.refusal.place -= 1;
+        }
+    }
+
+    /// What becomes of a line that is written, none of it where that was refused.
+    pub fn line_written(self, board: &Board, line: &mut [u8]) {
+        if self == Self::PlayersDigitInLine {
+            for (character, digit) in line.iter_mut().zip(board.digits).filter(|(_, digit)| *digit != 0) {
+                *character = b'0' + digit;
+            }
         }
     }
 }

@@ -28,6 +28,10 @@ pub struct Counts {
     pub shown: u64,
     /// Calls with wrong lengths, foreign boards and damaged memory, held to document 01 alone.
     pub beyond: u64,
+    /// Puzzle lines read and written, held to document 02 alone.
+    pub lines: u64,
+    /// Of these, accepted.
+    pub lines_accepted: u64,
     /// Boards solved by the solution's grid, and by another.
     pub solved: u64,
     /// Boards solved by a grid that is not the solution.
@@ -49,7 +53,7 @@ impl Counts {
 
     /// The numbers, and for 29 and 31 the inner ones, that should occur and did not.
     pub fn missing(&self) -> Vec<(u8, u8)> {
-        let plain = (1..=35).filter(|number| !matches!(number, 29 | 31)).map(|number| (number, 0));
+        let plain = (1..=37).filter(|number| !matches!(number, 29 | 31)).map(|number| (number, 0));
         let moves = [3, 5, 6, 7, 8, 9, 10, 11].map(|inner| (29, inner));
         let checks = [3, 5, 8].map(|inner| (31, inner));
         let wanted = plain.chain(moves).chain(checks).chain([(255, 0)]);
@@ -75,6 +79,10 @@ impl Counts {
             format!(
                 "beyond the original     {:>9}  (lengths, foreign boards, damaged memory; held to document 01)",
                 self.beyond
+            ),
+            format!(
+                "lines read and written  {:>9}  ({} accepted; held to document 02)",
+                self.lines, self.lines_accepted
             ),
             "refusals, number (inner): how often".to_owned(),
         ];

@@ -2,6 +2,7 @@
 
 use crate::beyond;
 use crate::directed::{CASES, Stage};
+use crate::lines;
 use crate::pair::Compared;
 use crate::plant::Plant;
 use crate::players::{self, Played, Style};
@@ -85,6 +86,8 @@ impl Run {
     pub fn directed(&mut self) {
         let leaves = beyond::leaves(&mut self.counts);
         self.held("the leaves", leaves);
+        let lines = lines::directed(self.plant, &mut self.counts);
+        self.held("puzzle lines", lines);
         for &(name, case) in CASES {
             let compared = case(&mut Stage::new(self.plant, &mut self.counts));
             self.held(&format!("directed session: {name}"), compared);
@@ -121,6 +124,8 @@ impl Run {
     fn records(&mut self, played: &Played, rng: &mut Rng) {
         let beyond = beyond::damage(&played.record, &played.solution, rng, &mut self.counts);
         self.held(&format!("damage to the board of record {:?}", played.record), beyond);
+        let lines = lines::session(&played.record, &played.solution, rng, self.plant, &mut self.counts);
+        self.held(&format!("puzzle lines of record {:?}", played.record), lines);
         self.reopen(&Reopening { record: played.record.clone(), solution: played.solution });
         for _ in 0..4 {
             self.open(rng);

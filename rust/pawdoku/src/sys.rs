@@ -308,7 +308,8 @@ mod c {
             checks: *mut u8,
             checks_length: usize,
         ) -> Answer;
-        pub fn pawdoku_read_line(line: *const u8, line_length: usize, output: *mut u8, output_length: usize) -> Written;
+        pub fn pawdoku_read_line(line: *const u8, line_length: usize, output: *mut u8, output_length: usize)
+        -> Written;
         pub fn pawdoku_write_line(board: Board, output: *mut u8, output_length: usize) -> Written;
         pub fn pawdoku_reading(board: Board, journal: *const u8, journal_length: usize, k: usize) -> ReadingAnswer;
         pub fn pawdoku_cell(board: Board, row: u8, column: u8) -> CellAnswer;
@@ -545,8 +546,8 @@ pub fn reopen(record: &[u8], solution: &[u8], journal: &mut [u8], checks: &mut [
     }
 }
 
-/// Reads a puzzle line into givens as [`open`] takes them; bytes of the output beyond them stay. The output has at least
-/// [`crate::LINE_GIVENS`] bytes. Refused by 34, 36, 37.
+/// Reads a puzzle line into givens as [`open`] takes them; bytes of the output beyond them stay. The output has
+/// [`crate::LINE_GIVENS`] bytes or more. Refused by 34, 36, 37.
 #[must_use]
 #[inline]
 pub fn read_line(line: &[u8], output: &mut [u8]) -> Written {
