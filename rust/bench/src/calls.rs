@@ -2,8 +2,10 @@
 
 use crate::pair::{Call, Ours, heading, line, make, median_and_worst};
 use crate::puzzle::{Puzzle, column, peers, position, row};
+use crate::sitting::Dice;
 use original::board::Board as Theirs;
 use pawdoku::sys;
+use std::cell::Cell;
 use std::hint::black_box;
 use std::time::Instant;
 
@@ -139,9 +141,8 @@ fn deeper(levels: usize, f: &mut dyn FnMut()) {
     black_box(&pad);
 }
 
-/// What the boundary itself costs: a call that is refused at once, by number 1, hands the board over and back and does
-/// nothing else.
-fn boundary(puzzle: &Puzzle, rounds: usize, refused: impl Fn(&mut Ours)) -> f64 {
+/// The median of a call that is timed on the library alone.
+fn alone(puzzle: &Puzzle, rounds: usize, call: impl Fn(&mut Ours)) -> f64 {
     let mut boards: Vec<Ours> = puzzle.cells.iter().map(|_| Ours::unopened()).collect();
     boards.iter_mut().for_each(|board| board.open(puzzle));
     let mut times: Vec<f64> = (0..rounds)
@@ -149,7 +150,7 @@ fn boundary(puzzle: &Puzzle, rounds: usize, refused: impl Fn(&mut Ours)) -> f64 
             let mut time = 0.0;
             deeper(round % 16, &mut || {
                 let start = Instant::now();
-                boards.iter_mut().for_each(&refused);
+                boards.iter_mut().for_each(&call);
                 time = start.elapsed().as_nanos() as f64 / boards.len() as f64;
             });
             time
@@ -172,9 +173,51 @@ pub fn table(puzzle: &Puzzle, rounds: usize) {
         }
         println!();
     }
+    // What the boundary itself costs: such a call hands the board over and back and does nothing else.
     println!(
         "A place that is refused at once, by number 1, takes the library {:.0} ns, and {:.0} ns where the answer is copied.\n",
-        boundary(puzzle, rounds, Ours::refused),
-        boundary(puzzle, rounds, Ours::refused_and_copied),
+        alone(puzzle, rounds, Ours::refused),
+        alone(puzzle, rounds, Ours::refused_and_copied),
     );
+    lines(puzzle, rounds);
+}
+
+/// So many lines with the characters of the puzzle's, in any order.
+fn shuffled(puzzle: &Puzzle, count: usize) -> Vec<Vec<u8>> {
+    let mut dice = Dice(2026);
+    let mut line = puzzle.line.clone();
+    let mut next = || {
+        for at in (1..line.len()).rev() {
+            line.swap(at, dice.below(at + 1));
+        }
+        line.clone()
+    };
+    (0..count).map(|_| next()).collect()
+}
+
+/// Reads one line after the other, and from the last on the first again.
+fn reading(puzzle: &Puzzle, rounds: usize, lines: &[Vec<u8>]) -> f64 {
+    let next = Cell::new(0);
+    alone(puzzle, rounds, |_| {
+        let mut givens = [0; pawdoku::LINE_GIVENS];
+        let read = sys::read_line(&lines[next.get()], &mut givens);
+        assert_eq!(read.length, puzzle.bytes.len());
+        black_box(&givens);
+        next.set((next.get() + 1) % lines.len());
+    })
+}
+
+/// A puzzle line, read and written; the original does neither. The same line again and again is what a processor learns
+/// to foresee, so other lines, which it has not seen before, have a row of their own.
+fn lines(puzzle: &Puzzle, rounds: usize) {
+    println!("| a puzzle line | library |\n|---|---:|");
+    println!("| read the puzzle's line | {:.0} |", reading(puzzle, rounds, &[puzzle.line.clone()]));
+    let others = shuffled(puzzle, 4096);
+    println!("| read a line, each time another | {:.0} |", reading(puzzle, rounds, &others));
+    let written = alone(puzzle, rounds, |board| {
+        let mut line = [0; pawdoku::LINE_BYTES];
+        board.write_line(&mut line);
+        assert_eq!(line[..], puzzle.line);
+    });
+    println!("| write the puzzle's line | {written:.0} |\n");
 }

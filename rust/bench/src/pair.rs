@@ -55,6 +55,13 @@ impl Ours {
         assert_eq!(self.answer.refusal.number, 1);
     }
 
+    /// The line of its givens.
+    #[inline]
+    pub fn write_line(&self, line: &mut [u8; pawdoku::LINE_BYTES]) {
+        let written = sys::write_line(self.board(), line);
+        assert_eq!(written.refusal.number, 0);
+    }
+
     /// Undo, its answer returned and copied.
     #[inline]
     pub fn undo_and_copy(&mut self) {

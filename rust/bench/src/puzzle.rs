@@ -9,6 +9,8 @@ pub struct Puzzle {
     pub givens: Vec<Given>,
     /// The same as bytes.
     pub bytes: Vec<u8>,
+    /// The same as a line.
+    pub line: Vec<u8>,
     pub solution: [u8; 81],
     /// The cells that are timed, from 0: those that the thirty givens leave empty, so that both puzzles have the same.
     pub cells: Vec<usize>,
@@ -29,10 +31,12 @@ impl Puzzle {
             *digit = letter - b'0';
         }
         let given: Vec<bool> = THIRTY.bytes().map(|letter| letter.is_ascii_digit()).collect();
+        let letters = THIRTY.bytes().zip(&given);
         let kept: Vec<usize> = (0..81).filter(|&cell| keeps(given[cell])).collect();
         Self {
             givens: kept.iter().map(|&cell| Given::new(position(cell), solution[cell])).collect(),
             bytes: kept.iter().flat_map(|&cell| [row(cell), column(cell), solution[cell]]).collect(),
+            line: letters.map(|(letter, &given)| if keeps(given) { letter } else { b'.' }).collect(),
             solution,
             cells: (0..81).filter(|&cell| !given[cell]).collect(),
         }
