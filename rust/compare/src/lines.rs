@@ -156,7 +156,9 @@ impl Mail<'_> {
         let mut output = self.output(room);
         let expected = writing(board, &output);
         let written = sys::write_line(board, &mut output);
-        self.plant.line_written(board, &mut output[..written.length]);
+        if let Some(line) = output.get_mut(..written.length) {
+            self.plant.line_written(board, line);
+        }
         let found = (written, output);
         self.compare(&format!("writing a line into {room} bytes"), &expected, &found)?;
         Ok(found.1[..found.0.length].to_vec())
