@@ -142,7 +142,7 @@ enum {
     PAWDOKU_CHECK_REFUSED = 31,            /* place: the check; inner: 3, 5 or 8 */
     PAWDOKU_CHECK_AFTER_NO_MOVE = 32,      /* place: the check */
     PAWDOKU_CHECK_WOULD_SOLVE = 33,        /* place: the check: a right digit where one cell was to play */
-    PAWDOKU_OUTPUT_TOO_SHORT = 34,         /* for what is written; reading a line: below PAWDOKU_LINE_GIVENS, always */
+    PAWDOKU_OUTPUT_TOO_SHORT = 34,         /* reading a line: below PAWDOKU_LINE_GIVENS, however few its givens */
     PAWDOKU_NO_SUCH_MOVE = 35,             /* a reading of move 0 or of one above made */
     PAWDOKU_NOT_A_LINE = 36,               /* neither 81 bytes nor 82 of which the last is a line feed */
     PAWDOKU_NO_LINE_CHARACTER = 37,        /* place: the first character of another sort, counted from 1 */

@@ -547,6 +547,12 @@ static pawdoku_written write_line(const pawdoku_board *b)
     return w;
 }
 
+static void must_be_read_back(size_t length, const uint8_t *givens, size_t givens_length)
+{
+    must(length == givens_length, WRITE_LINE, "read back as more or fewer givens");
+    must(memcmp(output.bytes, givens, length) == 0, WRITE_LINE, "read back as other givens");
+}
+
 /* A written line read back gives the board's givens: those that a sitting was opened with, and those of any board. */
 static void try_write_line(void)
 {
@@ -560,16 +566,10 @@ static void try_write_line(void)
     pawdoku_written read = read_line(line, sizeof line);
     if (read.refusal.number != 0)
         return;
-    size_t n = 0;
-    for (size_t i = 0; i < PAWDOKU_CELLS; i++)
-        if (p.board.given[i]) {
-            const uint8_t given[3] = {(uint8_t)(i / 9 + 1), (uint8_t)(i % 9 + 1), p.board.digits[i]};
-            must(n < read.length && memcmp(output.bytes + n, given, 3) == 0, WRITE_LINE, "read back as other givens");
-            n += 3;
-        }
-    must(n == read.length, WRITE_LINE, "read back with more givens");
+    struct expected e = givens_of(&p.board);
+    must_be_read_back(read.length, e.output, e.length);
     if (p.own)
-        must(n == p.from->givens_length && memcmp(output.bytes, p.from->givens, n) == 0, WRITE_LINE, "not the opened ones");
+        must_be_read_back(read.length, p.from->givens, p.from->givens_length);
 }
 
 /* Opens what was read from a sitting's line, and plays any list of calls on it. */
@@ -601,7 +601,7 @@ static void try_line_and_back(void)
     if (write_line(&s.board).refusal.number != 0)
         return;
     for (size_t i = 0; i < PAWDOKU_CELLS; i++)
-        must(output.bytes[i] == (line[i] == '0' ? '.' : line[i]), WRITE_LINE, "another line than the one that was read");
+        must(output.bytes[i] == (line[i] == '0' ? '.' : line[i]), WRITE_LINE, "another line than was read");
 }
 
 /* ---- notes and the grid, which cannot be refused */

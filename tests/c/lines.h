@@ -92,6 +92,16 @@ static void lay_given(struct expected *e, size_t cell, size_t digit)
     e->length += sizeof given;
 }
 
+/* The givens of a board, in order. */
+static struct expected givens_of(const pawdoku_board *b)
+{
+    struct expected e = {0, 0, 0, {0}};
+    for (size_t i = 0; i < PAWDOKU_CELLS; i++)
+        if (b->given[i])
+            lay_given(&e, i, b->digits[i]);
+    return e;
+}
+
 /* Of the line and the output as they are lent. */
 static struct expected reading_of_line(void)
 {

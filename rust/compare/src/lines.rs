@@ -131,11 +131,16 @@ impl Mail<'_> {
         (0..room).map(|_| self.rng.byte()).collect()
     }
 
-    fn compare(&mut self, what: &str, expected: &Expected, found: &Expected) -> Compared {
+    /// What was done is put into words only where something differs: there are many lines.
+    fn compare(&mut self, what: impl FnOnce() -> String, expected: &Expected, found: &Expected) -> Compared {
         self.counts.lines += 1;
         self.counts.lines_accepted += u64::from(found.0.refusal == ACCEPTED);
         self.counts.refused(found.0.refusal);
-        same(what, &expected.0, &found.0)?;
+        if expected == found {
+            return Ok(());
+        }
+        let what = what();
+        same(&what, &expected.0, &found.0)?;
         same_bytes(&format!("the output of {what}"), &expected.1, &found.1)
     }
 
@@ -146,8 +151,8 @@ impl Mail<'_> {
         let mut written = sys::read_line(line, &mut output);
         self.plant.line_read(&mut written);
         let found = (written, output);
-        let text = String::from_utf8_lossy(line);
-        self.compare(&format!("reading the line {text:?} into {room} bytes"), &expected, &found)?;
+        let what = || format!("reading the line {:?} into {room} bytes", String::from_utf8_lossy(line));
+        self.compare(what, &expected, &found)?;
         Ok(found.1[..found.0.length].to_vec())
     }
 
@@ -160,7 +165,7 @@ impl Mail<'_> {
             self.plant.line_written(board, line);
         }
         let found = (written, output);
-        self.compare(&format!("writing a line into {room} bytes"), &expected, &found)?;
+        self.compare(|| format!("writing a line into {room} bytes"), &expected, &found)?;
         Ok(found.1[..found.0.length].to_vec())
     }
 
