@@ -107,11 +107,11 @@ written-again byte h =
 
 -- what the character of a cell says: the digit of a given, and nothing of any other cell
 module _ (g : Bool) (d : ℕ) (is : g ≡ true → inRange d ≡ true) where
-  said : cellValue (pick g (48 + d) 46) ≡ pick g d 0
-  said =
+  said : (blank : ℕ) → cellValue blank ≡ 0 → cellValue (pick g (48 + d) blank) ≡ pick g d 0
+  said blank z =
       by-test g
       (λ t. ap cellValue (pick-true g _ _ t) ∙ value-of-digit d (range-to d (is t)) ∙ sym (pick-true g d 0 t))
-      (λ t. ap cellValue (pick-false g _ _ t) ∙ value-of-stop ∙ sym (pick-false g d 0 t))
+      (λ t. ap cellValue (pick-false g _ _ t) ∙ z ∙ sym (pick-false g d 0 t))
 
   said-small : pick g d 0 ≤ 9
   said-small = by-test g (λ t. omega (arith, pick-true g d 0 t, range-to d (is t))) (λ t. omega (arith, pick-false g d 0 t))
@@ -140,8 +140,8 @@ module _ (b : Board) (t : isBoard b ≡ true) where
   saidAt cell = pick (isGiven (b .given) cell) (at (b .digits) cell) 0
 
   character-said : (cell : ℕ) → 1 ≤ cell → cell ≤ 81 → valueAt (lineOf b) cell ≡ saidAt cell
-  unfolding valueAt characterAt
-  character-said cell l u = ap cellValue (line-at b cell l u) ∙ said (isGiven (b .given) cell) (at (b .digits) cell) (given-digit cell l u)
+  unfolding valueAt characterAt cellValue both pick
+  character-said cell l u = ap cellValue (line-at b cell l u) ∙ said (isGiven (b .given) cell) (at (b .digits) cell) (given-digit cell l u) _ refl
 
   pub line-read : lineRefusal (lineOf b) ≡ accepted
   unfolding isLine lineOf otherSort
