@@ -5,6 +5,7 @@ use mathlib.Core.Path.{_≡_, sym, ap, _∙_}
 use mathlib.Core.Bool.{true}
 use mathlib.Core.List.{List}
 use borrow.Author.Tests.{eq-eqb}
+use native.Mathlib.Omega.{arith}
 use lib.ListN.{length}
 use Rattle.sudoku.proofs.Walks.{pick-true}
 use Rattle.puzzle.specs.declared.Refusal.{Refusal}
@@ -37,7 +38,7 @@ nothing-requires c κs = search needs
 returns : tie.Need-returns
 returns c =
     let a = c .before .before .before .before .before .args in
-    let w = no-room (a .line .now) (a .output .now) (c .before .before .if1 .taken) in
+    let w = no-room (a .line .now) (a .output .now) (omega (arith, c .before .before .if1 .taken)) in
     (c .nothing .ensures ∙ ap (λ (x : Refusal). wrote x 0 (a .output .now) .answer) (c .before .refusal .ensures) ∙ ap (λ (x : Wrote). x .answer) w, ap (λ (x : Wrote). x .output) w)
 
 line-cells-requires : tie.Need-line-cells-requires
@@ -51,14 +52,14 @@ unfolding lineCells
 returns-2 c =
     let a = c .before .before .before .before .before .before .before .before .args in
     let read = c .before .before .before .before .line-cells .result in
-    let w = not-read (a .line .now) (a .output .now) (c .before .before .before .before .before .if1 .left) (read .refusal) (ap (λ (x : LineCells). x .refusal) (c .before .before .before .before .line-cells .ensures)) (c .before .if2 .taken) in
+    let w = not-read (a .line .now) (a .output .now) (omega (arith, c .before .before .before .before .before .if1 .left)) (read .refusal) (ap (λ (x : LineCells). x .refusal) (c .before .before .before .before .line-cells .ensures)) (c .before .if2 .taken) in
     (c .nothing2 .ensures ∙ ap (λ (x : Wrote). x .answer) w, ap (λ (x : Wrote). x .output) w)
 
 accepted-requires : tie.Need-accepted-requires
 accepted-requires c κs = search needs
 
 lay-givens-requires : tie.Need-lay-givens-requires
-lay-givens-requires c κs = c .before .before .before .before .before .before .before .before .if1 .left
+lay-givens-requires c κs = omega (arith, c .before .before .before .before .before .before .before .before .if1 .left)
 
 same-length : tie.Need-same-length
 same-length c = search needs
@@ -68,7 +69,7 @@ returns-3 c =
     let a = c .before .before .before .before .before .before .before .before .before .before .before .before .before .before .args in
     let read = c .before .before .before .before .before .before .before .before .before .before .line-cells .result in
     let l = laid (a .line .now) read (c .before .before .before .before .before .before .before .before .before .before .line-cells .ensures) (c .before .before .before .before .before .before .before .if2 .left) in
-    let w = is-read (a .line .now) (a .output .now) (c .before .before .before .before .before .before .before .before .before .before .before .if1 .left) (read .refusal) (l .0) (c .before .before .before .before .before .before .before .if2 .left) in (
+    let w = is-read (a .line .now) (a .output .now) (omega (arith, c .before .before .before .before .before .before .before .before .before .before .before .if1 .left)) (read .refusal) (l .0) (c .before .before .before .before .before .before .before .if2 .left) in (
       (λ j. wrote (c .before .before .before .before .before .before .accepted .ensures j) ((c .before .before .lay-givens .ensures .0 ∙ ap length (l .1)) j) (a .output .now) .answer) ∙ ap (λ (x : Wrote). x .answer) w,
       c .before .before .lay-givens .ensures .1 ∙ ap (over (a .output .now) 0) (l .1) ∙ ap (λ (x : Wrote). x .output) w,
     )
