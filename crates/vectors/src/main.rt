@@ -11,6 +11,8 @@ use journal::MAX_MOVES;
 use journal::SLOT_BYTES;
 use libc::STDIN_FILENO;
 use libc::STDOUT_FILENO;
+use lines::GIVENS_ROOM;
+use lines::LINE_BYTES;
 use pawdoku::asked::pawdoku_can_redo;
 use pawdoku::asked::pawdoku_can_undo;
 use pawdoku::asked::pawdoku_cell;
@@ -19,6 +21,8 @@ use pawdoku::asked::pawdoku_is_consistent;
 use pawdoku::asked::pawdoku_is_full;
 use pawdoku::asked::pawdoku_is_solved;
 use pawdoku::grid::pawdoku_cell_of;
+use pawdoku::line::pawdoku_read_line;
+use pawdoku::line::pawdoku_write_line;
 use pawdoku::list::pawdoku_play;
 use pawdoku::saved::pawdoku_open;
 use pawdoku::saved::pawdoku_reopen;
@@ -164,11 +168,19 @@ fn solution_of<'a>(block: &'a [u8]) -> &'a [u8] {
     part(block, SOLUTION_AT, CELLS)
 }
 
+// The givens of a block.
+fn givens_of<'a>(block: &'a [u8]) -> &'a [u8] {
+    part(
+        block,
+        BEHIND_SOLUTION + 1,
+        GIVEN * wide(byte_at(block, BEHIND_SOLUTION)),
+    )
+}
+
 // Tag, solution, givens and the answer to opening.
 fn opening(block: &[u8], journal: &mut [u8], checks: &mut [u8]) -> Walk {
-    let length = GIVEN * wide(byte_at(block, BEHIND_SOLUTION));
-    let givens = part(block, BEHIND_SOLUTION + 1, length);
-    let at = plus(BEHIND_SOLUTION + 1, length);
+    let givens = givens_of(block);
+    let at = plus(BEHIND_SOLUTION + 1, givens.len());
     let answer = pawdoku_open(givens, solution_of(block), journal, checks);
     let opened = answer.board;
     Walk {
@@ -274,6 +286,17 @@ fn keys(block: &[u8], walk: Walk) -> Walk {
         key += 1;
     }
     found(walk, wrong, LINE)
+}
+
+// The board's line, written and read back: the givens that the block was opened with.
+fn line(block: &[u8], walk: Walk) -> Walk {
+    let mut text = [0u8; LINE_BYTES];
+    let mut givens = [0u8; GIVENS_ROOM];
+    let written = pawdoku_write_line(walk.board, &mut text);
+    let read = pawdoku_read_line(&text, &mut givens);
+    let refused = differs(written.refusal.number == 0);
+    let wrong = differing(givens_of(block), part(&givens, 0, read.length));
+    found(walk, plus(refused, wrong), 0)
 }
 
 // The first `length` bytes of two memories.
@@ -384,7 +407,7 @@ fn session(block: &[u8]) -> Walk {
         return found(opened, differs(opened.at == block.len()), 0); // refused, and nothing more is stored
     }
     let played = calls(block, opened, &mut journal, &mut checks);
-    let seen = keys(block, cells(block, state(block, played)));
+    let seen = line(block, keys(block, cells(block, state(block, played))));
     let kept = record(block, seen, &journal, &checks);
     let read = readings(block, kept, &journal);
     found(read, differs(read.at == block.len()), 0)
