@@ -295,7 +295,8 @@ pawdoku_answer pawdoku_reopen(const uint8_t *record, size_t record_length,
                               uint8_t *checks, size_t checks_length);
 
 /* Puzzle lines, as setters mail them: 81 characters, row by row, '1' to '9' for a given, '.' or '0' for a blank, and at
- * most one line feed behind them. A line is no proof that its puzzle has one solution, and opening still needs that. */
+ * most one line feed behind them. A line is no proof that its puzzle has one solution and no other; and it holds none:
+ * opening takes the solution beside the givens. */
 
 /* Reads a line into givens: `length` bytes of the output, which can go straight to pawdoku_open. The output has
  * PAWDOKU_LINE_GIVENS bytes or more, however few the givens are; those beyond them stay. Nothing in a line is passed

@@ -39,7 +39,8 @@ type Refused<T> = Result<T, Refusal>;
 /// The givens of a puzzle line, as [`Session::open`] takes them: 81 characters, row by row, 1 to 9 for a given, a full
 /// stop or 0 for a blank, and at most one line feed behind them.
 ///
-/// A line is no proof that its puzzle has one solution, and opening still needs that.
+/// A line is no proof that its puzzle has one solution and no other; and it holds none: opening takes the solution
+/// beside the givens.
 ///
 /// ```
 /// let solution = pawdoku::example_solution();
