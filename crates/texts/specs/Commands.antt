@@ -71,7 +71,7 @@ verbOfPlay name =
     ∷ (isSame name (99 ∷ 104 ∷ 101 ∷ 99 ∷ 107 ∷ []) ⇒ 99)
     ∷ [])
 
--- the others: latest l, next n, move k, left d, board b, save w, open o, help h, quit q
+-- the others: latest l, next n, move k, left d, board b, save w, open o, puzzle z, line i, help h, quit q
 unfoldable pub verbOfRest : List ℕ → ℕ
 verbOfRest name =
     first
@@ -82,6 +82,8 @@ verbOfRest name =
     ∷ (isSame name (98 ∷ 111 ∷ 97 ∷ 114 ∷ 100 ∷ []) ⇒ 98)
     ∷ (isSame name (115 ∷ 97 ∷ 118 ∷ 101 ∷ []) ⇒ 119)
     ∷ (isSame name (111 ∷ 112 ∷ 101 ∷ 110 ∷ []) ⇒ 111)
+    ∷ (isSame name (112 ∷ 117 ∷ 122 ∷ 122 ∷ 108 ∷ 101 ∷ []) ⇒ 122)
+    ∷ (isSame name (108 ∷ 105 ∷ 110 ∷ 101 ∷ []) ⇒ 105)
     ∷ (isSame name (104 ∷ 101 ∷ 108 ∷ 112 ∷ []) ⇒ 104)
     ∷ (isSame name (113 ∷ 117 ∷ 105 ∷ 116 ∷ []) ⇒ 113)
     ∷ [])

@@ -159,7 +159,7 @@ fn verb_of_play(name: &[u8]) -> u8
     0
 }
 
-// The letter of the commands that show something, and of those for files.
+// The letter of the commands that show something, and of those for files and lines.
 fn verb_of_rest(name: &[u8]) -> u8
     ensures { λ r. ⌜ r ≡ verbOfRest (now (name .entry)) ⌝ }
 {
@@ -183,6 +183,12 @@ fn verb_of_rest(name: &[u8]) -> u8
     }
     if same(name, b"open") {
         return b'o';
+    }
+    if same(name, b"puzzle") {
+        return b'z';
+    }
+    if same(name, b"line") {
+        return b'i';
     }
     if same(name, b"help") {
         return b'h';

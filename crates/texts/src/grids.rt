@@ -1,12 +1,10 @@
 // Puzzles and solutions as text: 81 cells row by row, 1 to 9 for a digit, a point or 0 for an empty cell. White space
 // is passed over.
 use crate::Cells;
-use crate::Givens;
+use puzzle::text::cell_value;
 use sudoku::CELLS;
-use sudoku::LINE;
 ghost use mathlib.Core.Path.{_≡_};
-ghost use Prim.Native.Nat.{_<_, _≤_};
-ghost use Rattle.texts.specs.Grids.{isSpace, cellValue, withCell, withCharacter, cellsOf, withGiven, withEntry, givensOf};
+ghost use Rattle.texts.specs.Grids.{isSpace, withCell, withCharacter, cellsOf};
 
 // Blank, tab, line end and the like.
 fn is_space(byte: u8) -> bool
@@ -19,22 +17,6 @@ fn is_space(byte: u8) -> bool
         return false;
     }
     byte <= 13
-}
-
-// What a character says of its cell; 10 where it is none.
-fn cell_value(byte: u8) -> u8
-    ensures { λ r. ⌜ r ≡ cellValue byte ⌝ }
-{
-    if byte == b'.' {
-        return 0;
-    }
-    if byte < 48 {
-        return 10;
-    }
-    if byte > 57 {
-        return 10;
-    }
-    byte - 48
 }
 
 // One cell more. 81 are kept, and beyond them only that there are more.
@@ -83,51 +65,6 @@ pub fn cells(text: &[u8]) -> Cells
     let mut i: usize = 0;
     while i < text.len() {
         let next = with_character(so_far, i + 1, text[i]);
-        so_far = next;
-        i += 1;
-    }
-    so_far
-}
-
-// One given more: the row, the column and the digit of entry i.
-fn with_given(so_far: Givens, i: usize, digit: u8) -> Givens
-    requires { ⌜ (i < 81) × («so_far» .length ≤ 240) ⌝ }
-    ensures { λ r. ⌜ r ≡ withGiven «so_far» i digit ⌝ }
-{
-    let at = so_far.length;
-    let mut next = so_far;
-    next.bytes[at] = (i / LINE + 1) as u8;
-    next.bytes[at + 1] = (i % LINE + 1) as u8;
-    next.bytes[at + 2] = digit;
-    next.length = at + 3;
-    next
-}
-
-// The digit of entry i as a given; an empty cell is none.
-fn with_entry(so_far: Givens, i: usize, digit: u8) -> Givens
-    requires { ⌜ i < 81 ⌝ }
-    ensures { λ r. ⌜ r ≡ withEntry «so_far» i digit ⌝ }
-{
-    if digit == 0 {
-        return so_far;
-    }
-    if so_far.length > 240 {
-        return so_far;
-    }
-    with_given(so_far, i, digit)
-}
-
-// The digits of a puzzle as givens, in the order of their cells.
-pub fn givens(puzzle: [u8; 81]) -> Givens
-    ensures { λ r. ⌜ r ≡ givensOf puzzle ⌝ }
-{
-    let mut so_far = Givens {
-        bytes: [0u8; 243],
-        length: 0,
-    };
-    let mut i: usize = 0;
-    while i < CELLS {
-        let next = with_entry(so_far, i, puzzle[i]);
         so_far = next;
         i += 1;
     }

@@ -14,12 +14,6 @@ pub struct Cells {
     pub wrong: usize,
 }
 
-// Givens as opening takes them: three bytes each, so many bytes in all.
-pub struct Givens {
-    pub bytes: [u8; 243],
-    pub length: usize,
-}
-
 // A word of a line: where it starts, and where it ends.
 pub struct Word {
     pub start: usize,

@@ -103,9 +103,29 @@ returns-9 : tie.Need-returns-9
 unfolding verbOfRest
 returns-9 c = sym (no-if _ _ _ (sym (c .before .before .before .before .before .before .before .before .before .before .before .before .before .before .before .before .before .before .before .before .before .before .before .before .before .same .ensures) ∙ c .before .before .before .before .before .before .before .before .before .before .before .before .before .before .before .before .before .before .before .before .before .before .before .before .if1 .left) ∙ no-if _ _ _ (sym (c .before .before .before .before .before .before .before .before .before .before .before .before .before .before .before .before .before .before .before .before .before .before .same2 .ensures) ∙ c .before .before .before .before .before .before .before .before .before .before .before .before .before .before .before .before .before .before .before .before .before .if2 .left) ∙ no-if _ _ _ (sym (c .before .before .before .before .before .before .before .before .before .before .before .before .before .before .before .before .before .before .before .same3 .ensures) ∙ c .before .before .before .before .before .before .before .before .before .before .before .before .before .before .before .before .before .before .if3 .left) ∙ no-if _ _ _ (sym (c .before .before .before .before .before .before .before .before .before .before .before .before .before .before .before .before .same4 .ensures) ∙ c .before .before .before .before .before .before .before .before .before .before .before .before .before .before .before .if4 .left) ∙ no-if _ _ _ (sym (c .before .before .before .before .before .before .before .before .before .before .before .before .before .same5 .ensures) ∙ c .before .before .before .before .before .before .before .before .before .before .before .before .if5 .left) ∙ no-if _ _ _ (sym (c .before .before .before .before .before .before .before .before .before .before .same6 .ensures) ∙ c .before .before .before .before .before .before .before .before .before .if6 .left) ∙ no-if _ _ _ (sym (c .before .before .before .before .before .before .before .same7 .ensures) ∙ c .before .before .before .before .before .before .if7 .left) ∙ no-if _ _ _ (sym (c .before .before .before .before .same8 .ensures) ∙ c .before .before .before .if8 .left) ∙ refused _ _ _ (sym (c .before .same9 .ensures) ∙ c .if9 .taken))
 
+slice-aggregate-same-10 : tie.Need-slice-aggregate-same-10
+slice-aggregate-same-10 c = search needs
+
+same-requires-10 : tie.Need-same-requires-10
+same-requires-10 c κs = search needs
+
 returns-10 : tie.Need-returns-10
 unfolding verbOfRest
-returns-10 c = sym (no-if _ _ _ (sym (c .before .before .before .before .before .before .before .before .before .before .before .before .before .before .before .before .before .before .before .before .before .before .before .before .before .same .ensures) ∙ c .before .before .before .before .before .before .before .before .before .before .before .before .before .before .before .before .before .before .before .before .before .before .before .before .if1 .left) ∙ no-if _ _ _ (sym (c .before .before .before .before .before .before .before .before .before .before .before .before .before .before .before .before .before .before .before .before .before .before .same2 .ensures) ∙ c .before .before .before .before .before .before .before .before .before .before .before .before .before .before .before .before .before .before .before .before .before .if2 .left) ∙ no-if _ _ _ (sym (c .before .before .before .before .before .before .before .before .before .before .before .before .before .before .before .before .before .before .before .same3 .ensures) ∙ c .before .before .before .before .before .before .before .before .before .before .before .before .before .before .before .before .before .before .if3 .left) ∙ no-if _ _ _ (sym (c .before .before .before .before .before .before .before .before .before .before .before .before .before .before .before .before .same4 .ensures) ∙ c .before .before .before .before .before .before .before .before .before .before .before .before .before .before .before .if4 .left) ∙ no-if _ _ _ (sym (c .before .before .before .before .before .before .before .before .before .before .before .before .before .same5 .ensures) ∙ c .before .before .before .before .before .before .before .before .before .before .before .before .if5 .left) ∙ no-if _ _ _ (sym (c .before .before .before .before .before .before .before .before .before .before .same6 .ensures) ∙ c .before .before .before .before .before .before .before .before .before .if6 .left) ∙ no-if _ _ _ (sym (c .before .before .before .before .before .before .before .same7 .ensures) ∙ c .before .before .before .before .before .before .if7 .left) ∙ no-if _ _ _ (sym (c .before .before .before .before .same8 .ensures) ∙ c .before .before .before .if8 .left) ∙ no-if _ 113 [] (sym (c .before .same9 .ensures) ∙ c .if9 .left) ∙ none)
+returns-10 c = sym (no-if _ _ _ (sym (c .before .before .before .before .before .before .before .before .before .before .before .before .before .before .before .before .before .before .before .before .before .before .before .before .before .before .before .before .same .ensures) ∙ c .before .before .before .before .before .before .before .before .before .before .before .before .before .before .before .before .before .before .before .before .before .before .before .before .before .before .before .if1 .left) ∙ no-if _ _ _ (sym (c .before .before .before .before .before .before .before .before .before .before .before .before .before .before .before .before .before .before .before .before .before .before .before .before .before .same2 .ensures) ∙ c .before .before .before .before .before .before .before .before .before .before .before .before .before .before .before .before .before .before .before .before .before .before .before .before .if2 .left) ∙ no-if _ _ _ (sym (c .before .before .before .before .before .before .before .before .before .before .before .before .before .before .before .before .before .before .before .before .before .before .same3 .ensures) ∙ c .before .before .before .before .before .before .before .before .before .before .before .before .before .before .before .before .before .before .before .before .before .if3 .left) ∙ no-if _ _ _ (sym (c .before .before .before .before .before .before .before .before .before .before .before .before .before .before .before .before .before .before .before .same4 .ensures) ∙ c .before .before .before .before .before .before .before .before .before .before .before .before .before .before .before .before .before .before .if4 .left) ∙ no-if _ _ _ (sym (c .before .before .before .before .before .before .before .before .before .before .before .before .before .before .before .before .same5 .ensures) ∙ c .before .before .before .before .before .before .before .before .before .before .before .before .before .before .before .if5 .left) ∙ no-if _ _ _ (sym (c .before .before .before .before .before .before .before .before .before .before .before .before .before .same6 .ensures) ∙ c .before .before .before .before .before .before .before .before .before .before .before .before .if6 .left) ∙ no-if _ _ _ (sym (c .before .before .before .before .before .before .before .before .before .before .same7 .ensures) ∙ c .before .before .before .before .before .before .before .before .before .if7 .left) ∙ no-if _ _ _ (sym (c .before .before .before .before .before .before .before .same8 .ensures) ∙ c .before .before .before .before .before .before .if8 .left) ∙ no-if _ _ _ (sym (c .before .before .before .before .same9 .ensures) ∙ c .before .before .before .if9 .left) ∙ refused _ _ _ (sym (c .before .same10 .ensures) ∙ c .if10 .taken))
+
+slice-aggregate-same-11 : tie.Need-slice-aggregate-same-11
+slice-aggregate-same-11 c = search needs
+
+same-requires-11 : tie.Need-same-requires-11
+same-requires-11 c κs = search needs
+
+returns-11 : tie.Need-returns-11
+unfolding verbOfRest
+returns-11 c = sym (no-if _ _ _ (sym (c .before .before .before .before .before .before .before .before .before .before .before .before .before .before .before .before .before .before .before .before .before .before .before .before .before .before .before .before .before .before .before .same .ensures) ∙ c .before .before .before .before .before .before .before .before .before .before .before .before .before .before .before .before .before .before .before .before .before .before .before .before .before .before .before .before .before .before .if1 .left) ∙ no-if _ _ _ (sym (c .before .before .before .before .before .before .before .before .before .before .before .before .before .before .before .before .before .before .before .before .before .before .before .before .before .before .before .before .same2 .ensures) ∙ c .before .before .before .before .before .before .before .before .before .before .before .before .before .before .before .before .before .before .before .before .before .before .before .before .before .before .before .if2 .left) ∙ no-if _ _ _ (sym (c .before .before .before .before .before .before .before .before .before .before .before .before .before .before .before .before .before .before .before .before .before .before .before .before .before .same3 .ensures) ∙ c .before .before .before .before .before .before .before .before .before .before .before .before .before .before .before .before .before .before .before .before .before .before .before .before .if3 .left) ∙ no-if _ _ _ (sym (c .before .before .before .before .before .before .before .before .before .before .before .before .before .before .before .before .before .before .before .before .before .before .same4 .ensures) ∙ c .before .before .before .before .before .before .before .before .before .before .before .before .before .before .before .before .before .before .before .before .before .if4 .left) ∙ no-if _ _ _ (sym (c .before .before .before .before .before .before .before .before .before .before .before .before .before .before .before .before .before .before .before .same5 .ensures) ∙ c .before .before .before .before .before .before .before .before .before .before .before .before .before .before .before .before .before .before .if5 .left) ∙ no-if _ _ _ (sym (c .before .before .before .before .before .before .before .before .before .before .before .before .before .before .before .before .same6 .ensures) ∙ c .before .before .before .before .before .before .before .before .before .before .before .before .before .before .before .if6 .left) ∙ no-if _ _ _ (sym (c .before .before .before .before .before .before .before .before .before .before .before .before .before .same7 .ensures) ∙ c .before .before .before .before .before .before .before .before .before .before .before .before .if7 .left) ∙ no-if _ _ _ (sym (c .before .before .before .before .before .before .before .before .before .before .same8 .ensures) ∙ c .before .before .before .before .before .before .before .before .before .if8 .left) ∙ no-if _ _ _ (sym (c .before .before .before .before .before .before .before .same9 .ensures) ∙ c .before .before .before .before .before .before .if9 .left) ∙ no-if _ _ _ (sym (c .before .before .before .before .same10 .ensures) ∙ c .before .before .before .if10 .left) ∙ refused _ _ _ (sym (c .before .same11 .ensures) ∙ c .if11 .taken))
+
+returns-12 : tie.Need-returns-12
+unfolding verbOfRest
+returns-12 c = sym (no-if _ _ _ (sym (c .before .before .before .before .before .before .before .before .before .before .before .before .before .before .before .before .before .before .before .before .before .before .before .before .before .before .before .before .before .before .before .same .ensures) ∙ c .before .before .before .before .before .before .before .before .before .before .before .before .before .before .before .before .before .before .before .before .before .before .before .before .before .before .before .before .before .before .if1 .left) ∙ no-if _ _ _ (sym (c .before .before .before .before .before .before .before .before .before .before .before .before .before .before .before .before .before .before .before .before .before .before .before .before .before .before .before .before .same2 .ensures) ∙ c .before .before .before .before .before .before .before .before .before .before .before .before .before .before .before .before .before .before .before .before .before .before .before .before .before .before .before .if2 .left) ∙ no-if _ _ _ (sym (c .before .before .before .before .before .before .before .before .before .before .before .before .before .before .before .before .before .before .before .before .before .before .before .before .before .same3 .ensures) ∙ c .before .before .before .before .before .before .before .before .before .before .before .before .before .before .before .before .before .before .before .before .before .before .before .before .if3 .left) ∙ no-if _ _ _ (sym (c .before .before .before .before .before .before .before .before .before .before .before .before .before .before .before .before .before .before .before .before .before .before .same4 .ensures) ∙ c .before .before .before .before .before .before .before .before .before .before .before .before .before .before .before .before .before .before .before .before .before .if4 .left) ∙ no-if _ _ _ (sym (c .before .before .before .before .before .before .before .before .before .before .before .before .before .before .before .before .before .before .before .same5 .ensures) ∙ c .before .before .before .before .before .before .before .before .before .before .before .before .before .before .before .before .before .before .if5 .left) ∙ no-if _ _ _ (sym (c .before .before .before .before .before .before .before .before .before .before .before .before .before .before .before .before .same6 .ensures) ∙ c .before .before .before .before .before .before .before .before .before .before .before .before .before .before .before .if6 .left) ∙ no-if _ _ _ (sym (c .before .before .before .before .before .before .before .before .before .before .before .before .before .same7 .ensures) ∙ c .before .before .before .before .before .before .before .before .before .before .before .before .if7 .left) ∙ no-if _ _ _ (sym (c .before .before .before .before .before .before .before .before .before .before .same8 .ensures) ∙ c .before .before .before .before .before .before .before .before .before .if8 .left) ∙ no-if _ _ _ (sym (c .before .before .before .before .before .before .before .same9 .ensures) ∙ c .before .before .before .before .before .before .if9 .left) ∙ no-if _ _ _ (sym (c .before .before .before .before .same10 .ensures) ∙ c .before .before .before .if10 .left) ∙ no-if _ 113 [] (sym (c .before .same11 .ensures) ∙ c .if11 .left) ∙ none)
 
 pub verb-of-rest-spec : {M : Type 1} → statement M
 verb-of-rest-spec =
@@ -138,4 +158,10 @@ verb-of-rest-spec =
     slice-aggregate-same-9
     same-requires-9
     returns-9
-    returns-10)
+    slice-aggregate-same-10
+    same-requires-10
+    returns-10
+    slice-aggregate-same-11
+    same-requires-11
+    returns-11
+    returns-12)
