@@ -14,15 +14,19 @@ pub fn number(n: usize) {
     io::print_decimal(STDOUT_FILENO, n as u64);
 }
 
+fn is_printable(byte: u8) -> bool {
+    if byte < 32 {
+        return false;
+    }
+    byte <= 126
+}
+
 // A byte, or ? where it is not printable.
 fn shown_byte(byte: u8) {
-    if byte < 32 {
-        return say(b"?");
+    if is_printable(byte) {
+        return say(&[byte]);
     }
-    if byte > 126 {
-        return say(b"?");
-    }
-    say(&[byte]);
+    say(b"?");
 }
 
 // A text from outside, its printable characters alone.

@@ -1,7 +1,10 @@
 // Every refusal in plain words, here and nowhere else. Numbers, places and inner numbers are document 01's.
+use crate::is_printable;
 use crate::number;
 use crate::say;
+use crate::shown;
 use puzzle::Refusal;
+use puzzle::byte_at;
 use sudoku::column_of;
 use sudoku::row_of;
 use sudoku::wide;
@@ -13,7 +16,7 @@ fn of_memory(refused: u8) {
         2 => say(b"the board is none that calls leave"),
         15 => say(b"1,024 moves stand, and there is room for no more"),
         16 => say(b"256 checks are stored, and there is room for no more"),
-        34 => say(b"the record is longer than the room for it"),
+        34 => say(b"the room for what is to be written is too small"),
         _ => say(b"the memory is none that calls leave"),
     }
 }
@@ -58,11 +61,17 @@ fn at_place(before: &[u8], place: usize, after: &[u8]) {
     say(after);
 }
 
+// The position of a cell, behind its number.
+fn position(cell: usize) {
+    at_place(b" (row ", row_of(cell), b", column ");
+    number(column_of(cell));
+    say(b")");
+}
+
 // A cell by its number and its position.
 fn cell(cell: usize) {
-    at_place(b"cell ", cell, b" (row ");
-    number(row_of(cell));
-    at_place(b", column ", column_of(cell), b")");
+    at_place(b"cell ", cell, b"");
+    position(cell);
 }
 
 // 23 to 27: what stands in the way of opening, with the cell or the given that is named.
@@ -133,6 +142,17 @@ fn of_an_item(r: Refusal) {
     }
 }
 
+// 36 and 37: of a puzzle's line.
+fn of_a_line(r: Refusal) {
+    if r.number == 36 {
+        say(b"a line is 81 characters, with at most one line feed after them");
+        return;
+    }
+    at_place(b"character ", r.place, b"");
+    position(r.place);
+    say(b" is none of 1 to 9, full stop and 0");
+}
+
 // What a refusal means.
 fn meaning(r: Refusal) {
     let refused = r.number;
@@ -140,12 +160,13 @@ fn meaning(r: Refusal) {
         17..=22 | 30 => of_a_record(r),
         23..=27 => of_a_puzzle(r),
         28..=29 | 31..=33 => of_an_item(r),
+        36..=37 => of_a_line(r),
         _ => of_a_call(refused),
     }
 }
 
-// A refusal on a line of its own: its number, its place and inner number where it has them, and what they mean.
-pub fn explain(r: Refusal) {
+// A refusal's number, its place and inner number where it has them, and what they mean.
+fn explained(r: Refusal) {
     at_place(b"refused by ", wide(r.number), b"");
     if r.place != 0 {
         at_place(b" at ", r.place, b"");
@@ -155,5 +176,39 @@ pub fn explain(r: Refusal) {
     }
     say(b": ");
     meaning(r);
+}
+
+// A refusal on a line of its own.
+pub fn explain(r: Refusal) {
+    explained(r);
+    say(b"\n");
+}
+
+// A character that was found, by its byte where it is not printable.
+fn found(byte: u8) {
+    if is_printable(byte) {
+        say(b": it is ");
+        shown(&[byte]);
+        return;
+    }
+    at_place(b": it is byte ", wide(byte), b"");
+}
+
+// What of a line was refused: by 36 how many characters came, lest a line that was cut short or has grown be taken for
+// a fault of the reader, and by 37 which one is of another sort.
+fn what_came(r: Refusal, line: &[u8]) {
+    if r.number == 36 {
+        at_place(b"; ", line.len(), b" came, counted in bytes");
+        return;
+    }
+    if r.place > 0 {
+        found(byte_at(line, r.place - 1));
+    }
+}
+
+// A refusal of a puzzle's line on a line of its own, with what came instead.
+pub fn explain_line(r: Refusal, line: &[u8]) {
+    explained(r);
+    what_came(r, line);
     say(b"\n");
 }
