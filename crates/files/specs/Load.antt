@@ -1,5 +1,6 @@
--- What the bytes of a file open: a record is reopened, and a text of cells is a puzzle whose digits are the givens.
--- And what loading leaves: the board that was opened with its memory, or the lent memory as it was.
+-- What the bytes of a file open: a record is reopened, and a text of cells is a puzzle whose digits are the givens; and
+-- what a mailed line opens with the line of its solution. And what loading leaves: the board that was opened with its
+-- memory, or the lent memory as it was.
 -- Assumes nothing.
 use Prim.Native.Nat.{ℕ}
 use mathlib.Core.Path.{_≡_}
@@ -9,12 +10,13 @@ use lib.Dec.{leb, eqb}
 use lib.ListN.{length, getD}
 use Rattle.sudoku.specs.Tests.{pick, both, either}
 use Rattle.puzzle.specs.Refusals.{isAccepted}
+use Rattle.puzzle.specs.Givens.{tripleBytes}
 use Rattle.board.specs.declared.Board.{Board}
 use Rattle.board.specs.Board.{zeroBoard}
 use Rattle.board.specs.Open.{Opened, noMoves, noChecks, openOf}
 use Rattle.record.specs.Reopen.{reopenOf}
-use Rattle.texts.specs.Parts.{partOf}
-use Rattle.texts.specs.Grids.{cellsOf, givensOf}
+use Rattle.lines.specs.Lines.{lineRefusal, valuesOf, lineGivens, digitsBytes}
+use Rattle.texts.specs.Grids.{cellsOf}
 use Rattle.files.specs.declared.Loaded.{Loaded}
 use Rattle.files.specs.Disk.{Content, unread, holding, isWhole, cellsIn}
 
@@ -22,13 +24,9 @@ use Rattle.files.specs.Disk.{Content, unread, holding, isWhole, cellsIn}
 unfoldable pub isRecord : List ℕ → Bool
 isRecord bytes = both (leb 1 (getD bytes 0 0)) (leb (getD bytes 0 0) 7)
 
--- the digits of a puzzle as opening takes them
-unfoldable pub givenBytes : List ℕ → List ℕ
-givenBytes puzzle = partOf (givensOf puzzle .bytes) 0 (givensOf puzzle .length)
-
 unfoldable pub openBytes : List ℕ → List ℕ → List ℕ → List ℕ → Opened
 openBytes bytes solution journal checks =
-    pick (isRecord bytes) (reopenOf bytes solution journal checks) (openOf (givenBytes (cellsOf bytes .cells)) solution journal checks)
+    pick (isRecord bytes) (reopenOf bytes solution journal checks) (openOf (digitsBytes (cellsOf bytes .cells)) solution journal checks)
 
 -- a record, or a text of 81 cells
 unfoldable pub isOpenable : List ℕ → Bool
@@ -53,11 +51,16 @@ stays journal checks = left nothingLoaded journal checks
 abbrev pub loadedBoard : Board → Loaded
 loadedBoard b = record { good = true; board = b }
 
--- what bytes open in memory of zeros takes the place of what was lent; where they are refused, that stays
-unfoldable pub openApart : List ℕ → List ℕ → List ℕ → List ℕ → Left
-openApart bytes solution journal checks =
-    let o = openBytes bytes solution noMoves noChecks in
+-- what was opened in memory apart takes the place of what was lent; where it was refused, that stays
+unfoldable pub takesPlace : Opened → List ℕ → List ℕ → Left
+takesPlace o journal checks =
     pick (isAccepted (o .answer .refusal)) (left (loadedBoard (o .answer .board)) (o .journal) (o .checks)) (stays journal checks)
+
+-- ---- files
+
+-- what bytes open in memory of zeros
+unfoldable pub openApart : List ℕ → List ℕ → List ℕ → List ℕ → Left
+openApart bytes solution journal checks = takesPlace (openBytes bytes solution noMoves noChecks) journal checks
 
 unfoldable pub loadBytes : List ℕ → List ℕ → List ℕ → List ℕ → Left
 loadBytes bytes solution journal checks = pick (isOpenable bytes) (openApart bytes solution journal checks) (stays journal checks)
@@ -83,3 +86,17 @@ pub record FilesLoaded (named atHand journal checks : List ℕ) (after : Left) :
   pub file : Content
   pub answers : Content
   pub is : after ≡ loadOf named file answers atHand journal checks
+
+-- ---- mailed lines
+
+-- what a line opens with a solution, in memory of zeros: nothing by 36 or 37
+unfoldable pub openLine : List ℕ → List ℕ → List ℕ → List ℕ → Left
+openLine line solution journal checks =
+    pick (isAccepted (lineRefusal line))
+    (takesPlace (openOf (tripleBytes (lineGivens line)) solution noMoves noChecks) journal checks)
+    (stays journal checks)
+
+-- the same with the line of a solution: nothing where that is no line, and a blank in it is refused by 23
+unfoldable pub loadLine : List ℕ → List ℕ → List ℕ → List ℕ → Left
+loadLine line solution journal checks =
+    pick (isAccepted (lineRefusal solution)) (openLine line (valuesOf solution) journal checks) (stays journal checks)

@@ -1,4 +1,5 @@
-// A puzzle and its solution, or a record, from files. The board that is being played stays until another one is open.
+// A puzzle and its solution, or a record, from files; or a mailed line with the line of its solution. The board that is
+// being played stays until another one is open.
 use crate::Loaded;
 use crate::disk::FILE_BYTES;
 use crate::disk::is_whole;
@@ -9,17 +10,23 @@ use board::open::open;
 use board::open::zero_board;
 use journal::CHECK_MEMORY;
 use journal::JOURNAL_BYTES;
+use lines::GIVENS_ROOM;
+use lines::givens_of;
+use lines::line_cells;
+use lines::read_line;
+use print::say;
 use print::words::explain;
+use print::words::explain_line;
 use puzzle::byte_at;
 use reopen::reopen;
 use sudoku::CELLS;
 use texts::grids::cells;
-use texts::grids::givens;
 use texts::part;
 ghost use mathlib.Core.Path.{_≡_};
-ghost use Rattle.board.specs.Open.{openOf, Gives};
+ghost use Rattle.board.specs.Open.{openOf, noMoves, noChecks, Gives};
+ghost use Rattle.lines.specs.Lines.{digitsBytes};
 ghost use Rattle.texts.specs.Parts.{partOf};
-ghost use Rattle.files.specs.Load.{isRecord, givenBytes, openBytes, isOpenable, left, nothingLoaded, openApart, loadBytes, FileLoaded, FilesLoaded};
+ghost use Rattle.files.specs.Load.{isRecord, openBytes, isOpenable, left, nothingLoaded, takesPlace, openApart, loadBytes, FileLoaded, FilesLoaded, openLine, loadLine};
 
 fn nothing() -> Loaded
     ensures { λ r. ⌜ r ≡ nothingLoaded ⌝ }
@@ -43,7 +50,7 @@ fn is_record(bytes: &[u8]) -> bool
 
 // Opens with givens in the first bytes of some.
 fn open_givens(
-    bytes: &[u8; 243],
+    bytes: &[u8; GIVENS_ROOM],
     length: usize,
     right: &[u8; 81],
     journal: &mut [u8; JOURNAL_BYTES],
@@ -56,14 +63,14 @@ fn open_givens(
 
 // Opens a puzzle.
 fn open_puzzle(
-    puzzle: [u8; 81],
+    puzzle: &[u8; 81],
     right: &[u8; 81],
     journal: &mut [u8; JOURNAL_BYTES],
     checks: &mut [u8; CHECK_MEMORY],
 ) -> Answer
-    ensures { λ r. ⌜ Gives (openOf (givenBytes puzzle) (now (right .entry)) (now (journal .entry)) (now (checks .entry))) r (now (journal .exit)) (now (checks .exit)) ⌝ }
+    ensures { λ r. ⌜ Gives (openOf (digitsBytes (now (puzzle .entry))) (now (right .entry)) (now (journal .entry)) (now (checks .entry))) r (now (journal .exit)) (now (checks .exit)) ⌝ }
 {
-    let g = givens(puzzle);
+    let g = givens_of(puzzle);
     open_givens(&g.bytes, g.length, right, journal, checks)
 }
 
@@ -80,11 +87,34 @@ pub fn open_bytes(
         return reopen(bytes, right, journal, checks);
     }
     let found = cells(bytes);
-    let puzzle = found.cells;
-    open_puzzle(puzzle, right, journal, checks)
+    open_puzzle(&found.cells, right, journal, checks)
 }
 
-// Opens what a file holds in memory of its own, which takes the place of the lent memory only where all went well.
+// What was opened in memory apart takes the place of the lent memory, where all went well.
+fn taken_up(
+    answer: Answer,
+    own_journal: &[u8; JOURNAL_BYTES],
+    own_checks: &[u8; CHECK_MEMORY],
+    journal: &mut [u8; JOURNAL_BYTES],
+    checks: &mut [u8; CHECK_MEMORY],
+) -> Loaded
+    ensures { λ r. ⌜ left r (now (journal .exit)) (now (checks .exit)) ≡ takesPlace (record { answer = answer; journal = now («own_journal» .entry); checks = now («own_checks» .entry) }) (now (journal .entry)) (now (checks .entry)) ⌝ }
+{
+    let refused = answer.refusal;
+    if refused.number != 0 {
+        explain(refused);
+        return nothing();
+    }
+    *journal = *own_journal;
+    *checks = *own_checks;
+    let board = answer.board;
+    Loaded {
+        good: true,
+        board: board,
+    }
+}
+
+// Opens what a file holds in memory of its own.
 fn open_apart(
     bytes: &[u8],
     right: &[u8; 81],
@@ -96,18 +126,7 @@ fn open_apart(
     let mut own_journal = [0u8; JOURNAL_BYTES];
     let mut own_checks = [0u8; CHECK_MEMORY];
     let answer = open_bytes(bytes, right, &mut own_journal, &mut own_checks);
-    let refused = answer.refusal;
-    if refused.number != 0 {
-        explain(refused);
-        return nothing();
-    }
-    *journal = own_journal;
-    *checks = own_checks;
-    let board = answer.board;
-    Loaded {
-        good: true,
-        board: board,
-    }
+    taken_up(answer, &own_journal, &own_checks, journal, checks)
 }
 
 // Whether a file is a record, or a text of 81 cells.
@@ -173,4 +192,59 @@ pub fn load(
         return nothing();
     }
     load_with(path, &found.cells, journal, checks)
+}
+
+// Opens givens in memory of its own.
+fn open_givens_apart(
+    bytes: &[u8; GIVENS_ROOM],
+    length: usize,
+    right: &[u8; 81],
+    journal: &mut [u8; JOURNAL_BYTES],
+    checks: &mut [u8; CHECK_MEMORY],
+) -> Loaded
+    ensures { λ r. ⌜ left r (now (journal .exit)) (now (checks .exit)) ≡ takesPlace (openOf (partOf (now (bytes .entry)) 0 length) (now (right .entry)) noMoves noChecks) (now (journal .entry)) (now (checks .entry)) ⌝ }
+{
+    let mut own_journal = [0u8; JOURNAL_BYTES];
+    let mut own_checks = [0u8; CHECK_MEMORY];
+    let answer = open_givens(bytes, length, right, &mut own_journal, &mut own_checks);
+    taken_up(answer, &own_journal, &own_checks, journal, checks)
+}
+
+// Opens a mailed line with a solution.
+fn open_line(
+    line: &[u8],
+    right: &[u8; 81],
+    journal: &mut [u8; JOURNAL_BYTES],
+    checks: &mut [u8; CHECK_MEMORY],
+) -> Loaded
+    ensures { λ r. ⌜ left r (now (journal .exit)) (now (checks .exit)) ≡ openLine (now (line .entry)) (now (right .entry)) (now (journal .entry)) (now (checks .entry)) ⌝ }
+{
+    let mut bytes = [0u8; GIVENS_ROOM];
+    let read = read_line(line, &mut bytes);
+    let refused = read.refusal;
+    if refused.number != 0 {
+        explain_line(refused, line);
+        return nothing();
+    }
+    open_givens_apart(&bytes, read.length, right, journal, checks)
+}
+
+// A mailed line with the line of its solution, both taken strictly. A blank in the solution is a cell without a digit,
+// which opening refuses.
+pub fn load_line(
+    line: &[u8],
+    solution: &[u8],
+    journal: &mut [u8; JOURNAL_BYTES],
+    checks: &mut [u8; CHECK_MEMORY],
+) -> Loaded
+    ensures { λ r. ⌜ left r (now (journal .exit)) (now (checks .exit)) ≡ loadLine (now (line .entry)) (now (solution .entry)) (now (journal .entry)) (now (checks .entry)) ⌝ }
+{
+    let right = line_cells(solution);
+    let refused = right.refusal;
+    if refused.number != 0 {
+        say(b"the solution's line is ");
+        explain_line(refused, solution);
+        return nothing();
+    }
+    open_line(line, &right.cells, journal, checks)
 }

@@ -25,7 +25,7 @@ open-puzzle-requires c κs = search needs
 
 returns-2 : tie.Need-returns-2
 unfolding openBytes
-returns-2 c = rw (pick-false _ _ _ (sym (c .before .before .before .before .before .before .is-record .ensures) ∙ c .before .before .before .before .before .if1 .left), ← c .before .before .before .before .cells .ensures) (c .open-puzzle .ensures)
+returns-2 c = rw (pick-false _ _ _ (sym (c .before .before .before .before .before .before .before .is-record .ensures) ∙ c .before .before .before .before .before .before .if1 .left), ← c .before .before .before .before .before .cells .ensures) (c .open-puzzle .ensures)
 
 pub open-bytes-spec : {M : Type 1} → statement M
 open-bytes-spec =
