@@ -22,9 +22,9 @@ use Rattle.texts.specs.declared.Command.{Command}
 use Rattle.texts.specs.Parts.{partOf}
 use Rattle.files.specs.declared.Loaded.{Loaded}
 use Rattle.files.specs.Disk.{Content}
-use Rattle.files.specs.Load.{left, loadOf}
+use Rattle.files.specs.Load.{left, loadOf, loadLine}
 use Rattle.commands.specs.declared.Numbers.{Numbers}
-use Rattle.commands.specs.Perform.{numbersOf, isMove, wantedBy, moveNamed, moveCall, isUndo, undoCall, checkCall, commandCall, takenUp, openLeaves, commandLeaves}
+use Rattle.commands.specs.Perform.{numbersOf, isMove, wantedBy, moveNamed, moveCall, isUndo, undoCall, checkCall, commandCall, takenUp, openLeaves, puzzleLeaves, commandLeaves}
 
 -- ---- the move of a letter
 
@@ -139,6 +139,29 @@ module _ (line : List ℕ) (c : Command) (file answers : Content) (s : Session) 
     unfolding takenUp
     opens-anew e = ap (λ (b : Board). session b j k) (sym (pick-true _ (l .board) (s .board) e)) ∙ loads
 
+-- ---- puzzle, by its words and by what was loaded
+
+module _ (line : List ℕ) (c : Command) (s : Session) where
+  pub not-two : (c .words ≡ 2 → ⊥) → s ≡ puzzleLeaves line c s
+  unfolding puzzleLeaves
+  not-two n = sym (pick-false _ _ _ (ne-eqb (c .words) 2 n))
+
+  module _ (two : c .words ≡ 2) (mailed answers : List ℕ) (first : mailed ≡ partOf line (c .first .start) (c .first .end)) (second : answers ≡ partOf line (c .second .start) (c .second .end)) (l : Loaded) (j k : List ℕ) (is : left l j k ≡ loadLine mailed answers (s .journal) (s .checks)) where
+    loads-line : takenUp (s .board) (left l j k) ≡ puzzleLeaves line c s
+    unfolding puzzleLeaves
+    loads-line =
+        ap (takenUp (s .board)) is
+        ∙ (λ i. takenUp (s .board) (loadLine (first i) (second i) (s .journal) (s .checks)))
+        ∙ sym (pick-true _ _ _ (eq-eqb (c .words) 2 two))
+
+    pub poses-nothing : l .good ≡ false → session (s .board) j k ≡ puzzleLeaves line c s
+    unfolding takenUp
+    poses-nothing e = ap (λ (b : Board). session b j k) (sym (pick-false _ (l .board) (s .board) e)) ∙ loads-line
+
+    pub poses-anew : l .good ≡ true → session (l .board) j k ≡ puzzleLeaves line c s
+    unfolding takenUp
+    poses-anew e = ap (λ (b : Board). session b j k) (sym (pick-true _ (l .board) (s .board) e)) ∙ loads-line
+
 -- ---- a command, by its letter
 
 module _ (verb : ℕ) where
@@ -155,30 +178,37 @@ module _ (line : List ℕ) (c : Command) (file answers : Content) (s : Session) 
   unfolding commandLeaves
   by-open e = sym (pick-true _ _ _ (eq-eqb (c .verb) 111 e))
 
-  by-call : (d : Decoded) → eqb (c .verb) 111 ≡ false → commandCall line c ≡ d → runOne s d .left ≡ commandLeaves line c file answers s
+  pub by-puzzle : c .verb ≡ 122 → puzzleLeaves line c s ≡ commandLeaves line c file answers s
   unfolding commandLeaves
-  by-call d o e = sym (pick-false _ _ _ o ∙ ap (λ (x : Decoded). runOne s x .left) e)
+  by-puzzle e = sym (pick-false _ _ _ (ap (λ (x : ℕ). eqb x 111) e) ∙ pick-true _ _ _ (eq-eqb (c .verb) 122 e))
 
-  pub by-move : (v : ℕ) → c .verb ≡ v → isMove v ≡ true → eqb v 111 ≡ false → runOne s (moveCall line c) .left ≡ commandLeaves line c file answers s
-  unfolding commandCall
-  by-move v e m o = by-call (moveCall line c) (ap (λ (x : ℕ). eqb x 111) e ∙ o) (pick-true _ _ _ (ap isMove e ∙ m))
+  by-call : (d : Decoded) → eqb (c .verb) 111 ≡ false → eqb (c .verb) 122 ≡ false → commandCall line c ≡ d → runOne s d .left ≡ commandLeaves line c file answers s
+  unfolding commandLeaves
+  by-call d o z e = sym (pick-false _ _ _ o ∙ pick-false _ _ _ z ∙ ap (λ (x : Decoded). runOne s x .left) e)
 
-  pub by-undo : (v : ℕ) → c .verb ≡ v → isMove v ≡ false → isUndo v ≡ true → eqb v 111 ≡ false → runOne s (undoCall c) .left ≡ commandLeaves line c file answers s
+  pub by-move : (v : ℕ) → c .verb ≡ v → isMove v ≡ true → eqb v 111 ≡ false → eqb v 122 ≡ false → runOne s (moveCall line c) .left ≡ commandLeaves line c file answers s
   unfolding commandCall
-  by-undo v e m u o =
-      by-call (undoCall c) (ap (λ (x : ℕ). eqb x 111) e ∙ o)
+  by-move v e m o z =
+      by-call (moveCall line c) (ap (λ (x : ℕ). eqb x 111) e ∙ o) (ap (λ (x : ℕ). eqb x 122) e ∙ z)
+      (pick-true _ _ _ (ap isMove e ∙ m))
+
+  pub by-undo : (v : ℕ) → c .verb ≡ v → isMove v ≡ false → isUndo v ≡ true → eqb v 111 ≡ false → eqb v 122 ≡ false → runOne s (undoCall c) .left ≡ commandLeaves line c file answers s
+  unfolding commandCall
+  by-undo v e m u o z =
+      by-call (undoCall c) (ap (λ (x : ℕ). eqb x 111) e ∙ o) (ap (λ (x : ℕ). eqb x 122) e ∙ z)
       (pick-false _ _ _ (ap isMove e ∙ m) ∙ pick-true _ _ _ (ap isUndo e ∙ u))
 
   pub by-check : c .verb ≡ 99 → runOne s (checkCall line c) .left ≡ commandLeaves line c file answers s
   unfolding commandCall isMove isUndo either
   by-check e =
-      by-call (checkCall line c) (ap (λ (x : ℕ). eqb x 111) e)
+      by-call (checkCall line c) (ap (λ (x : ℕ). eqb x 111) e) (ap (λ (x : ℕ). eqb x 122) e)
       (pick-false _ _ _ (ap isMove e) ∙ pick-false _ _ _ (ap isUndo e) ∙ pick-true _ _ _ (eq-eqb (c .verb) 99 e))
 
-  pub by-none : isMove (c .verb) ≡ false → isUndo (c .verb) ≡ false → eqb (c .verb) 99 ≡ false → eqb (c .verb) 111 ≡ false → s ≡ commandLeaves line c file answers s
+  pub by-none : isMove (c .verb) ≡ false → isUndo (c .verb) ≡ false → eqb (c .verb) 99 ≡ false → eqb (c .verb) 111 ≡ false → eqb (c .verb) 122 ≡ false → s ≡ commandLeaves line c file answers s
   unfolding commandCall runOne called
-  by-none m u k o = by-call Nothing o (pick-false _ _ _ m ∙ pick-false _ _ _ u ∙ pick-false _ _ _ k)
+  by-none m u k o z = by-call Nothing o z (pick-false _ _ _ m ∙ pick-false _ _ _ u ∙ pick-false _ _ _ k)
 
-  pub by-other : (v : ℕ) → c .verb ≡ v → isMove v ≡ false → isUndo v ≡ false → eqb v 99 ≡ false → eqb v 111 ≡ false → s ≡ commandLeaves line c file answers s
-  by-other v e m u k o =
+  pub by-other : (v : ℕ) → c .verb ≡ v → isMove v ≡ false → isUndo v ≡ false → eqb v 99 ≡ false → eqb v 111 ≡ false → eqb v 122 ≡ false → s ≡ commandLeaves line c file answers s
+  by-other v e m u k o z =
       by-none (ap isMove e ∙ m) (ap isUndo e ∙ u) (ap (λ (x : ℕ). eqb x 99) e ∙ k) (ap (λ (x : ℕ). eqb x 111) e ∙ o)
+      (ap (λ (x : ℕ). eqb x 122) e ∙ z)

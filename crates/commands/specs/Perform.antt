@@ -19,10 +19,10 @@ use Rattle.texts.specs.declared.Command.{Command}
 use Rattle.texts.specs.Commands.{noNumber, valueOf}
 use Rattle.texts.specs.Parts.{partOf}
 use Rattle.files.specs.Disk.{Content}
-use Rattle.files.specs.Load.{Left, loadOf}
+use Rattle.files.specs.Load.{Left, loadOf, loadLine}
 use Rattle.commands.specs.declared.Numbers.{Numbers}
 
--- ---- the letters of the commands that change something, as texts' Commands has them: p m s e, u r, c, o
+-- ---- the letters of the commands that change something, as texts' Commands has them: p m s e, u r, c, o, z
 
 abbrev pub letterPlace : ℕ
 letterPlace = 112
@@ -47,6 +47,9 @@ letterCheck = 99
 
 abbrev pub letterOpen : ℕ
 letterOpen = 111
+
+abbrev pub letterPuzzle : ℕ
+letterPuzzle = 122
 
 -- ---- the numbers after a command
 
@@ -131,10 +134,18 @@ openLeaves line c file answers s =
     (takenUp (s .board) (loadOf (partOf line (c .second .start) (c .second .end)) file answers (s .board .solution) (s .journal) (s .checks)))
     s
 
--- what the files hold matters to open alone. A command that names no call leaves all as it was
+-- z puzzle: a mailed line and the line of its solution, as two words
+unfoldable pub puzzleLeaves : List ℕ → Command → Session → Session
+puzzleLeaves line c s =
+    pick (eqb (c .words) 2)
+    (takenUp (s .board) (loadLine (partOf line (c .first .start) (c .first .end)) (partOf line (c .second .start) (c .second .end)) (s .journal) (s .checks)))
+    s
+
+-- what the files hold matters to open alone. A command that names no call, as line does, leaves all as it was
 unfoldable pub commandLeaves : List ℕ → Command → Content → Content → Session → Session
 commandLeaves line c file answers s =
-    pick (eqb (c .verb) letterOpen) (openLeaves line c file answers s) (runOne s (commandCall line c) .left)
+    pick (eqb (c .verb) letterOpen) (openLeaves line c file answers s)
+    (pick (eqb (c .verb) letterPuzzle) (puzzleLeaves line c s) (runOne s (commandCall line c) .left))
 
 -- what is left is what open leaves of some files
 pub record Opens (line : List ℕ) (c : Command) (before after : Session) : Type 0 where

@@ -4,9 +4,12 @@ use board::Answer;
 use board::Board;
 use files::disk::save;
 use files::load::load;
+use files::load::load_line;
 use journal::CHECK_MEMORY;
 use journal::JOURNAL_BYTES;
 use journal::slots::slot_at;
+use lines::LINE_BYTES;
+use lines::write_line;
 use play::checks::check;
 use play::moves::erase;
 use play::moves::place;
@@ -40,7 +43,7 @@ ghost use mathlib.Core.List.{List};
 ghost use Prim.Native.Nat.{ℕ};
 ghost use Rattle.play.specs.Play.{playOf};
 ghost use Rattle.calls.specs.Encoded.{runOne, session};
-ghost use Rattle.commands.specs.Perform.{narrowed, thirdOf, areNumbers, numbersOf, wantedBy, moveNamed, moveCall, undoCall, checkCall, Opens, Performs};
+ghost use Rattle.commands.specs.Perform.{narrowed, thirdOf, areNumbers, numbersOf, wantedBy, moveNamed, moveCall, undoCall, checkCall, Opens, puzzleLeaves, Performs};
 
 // What the commands of play want.
 fn wanted_of_play(verb: u8) {
@@ -62,6 +65,9 @@ fn wanted(verb: u8) {
         b'o' => say(
             b"open wants a record or a puzzle, and may have its solution: names of files without blanks\n",
         ),
+        b'z' => say(
+            b"puzzle wants the 81 characters of a line, a blank, and the 81 digits of its solution\n",
+        ),
         _ => say(b"that command stands alone\n"),
     }
 }
@@ -81,7 +87,9 @@ move K                   k   show move K, and the board as it stood after it\n\
 left                     d   show the digits left for each key\n\
 board                    b   draw the board again\n\
 save FILE                w   write the game to a file\n\
-open FILE [SOLUTION]     o   go on with a saved game, or open a puzzle\n\
+open FILE [SOLUTION]     o   go on with a saved game, or open a puzzle; white space in its text is passed over\n\
+puzzle LINE SOLUTION     z   open a mailed line with its solution: 81 characters each, and nothing is passed over\n\
+line                     i   show the line of this puzzle, to mail it\n\
 help                     h   show this\n\
 quit                     q   leave\n\
 [5] is a given, 5 is yours, ! at its corners: the cell clashes. Marks stand small, each at its own place.\n",
@@ -245,6 +253,19 @@ fn check_command(
     after
 }
 
+// The board's own line: its givens, whatever was played.
+fn show_line(board: Board) {
+    let mut line = [0u8; LINE_BYTES];
+    let written = write_line(board, &mut line);
+    let refused = written.refusal;
+    if refused.number != 0 {
+        explain(refused);
+        return;
+    }
+    say(&line);
+    say(b"\n");
+}
+
 // The latest standing move.
 fn show_latest(board: Board, journal: &[u8; JOURNAL_BYTES]) {
     let mut refused: u8 = 0;
@@ -361,10 +382,38 @@ fn open_command(
     opened
 }
 
+// A mailed line and the line of its solution, as two words.
+fn puzzle_command(
+    line: &[u8],
+    command: Command,
+    board: Board,
+    journal: &mut [u8; JOURNAL_BYTES],
+    checks: &mut [u8; CHECK_MEMORY],
+    coloured: bool,
+) -> Board
+    ensures { λ r. ⌜ session r (now (journal .exit)) (now (checks .exit)) ≡ puzzleLeaves (now (line .entry)) command (session board (now (journal .entry)) (now (checks .entry))) ⌝ }
+{
+    if command.words != 2 {
+        wanted(b'z');
+        return board;
+    }
+    let first = command.first;
+    let second = command.second;
+    let mailed = part(line, first.start, first.end);
+    let solution = part(line, second.start, second.end);
+    let loaded = load_line(mailed, solution, journal, checks);
+    if !loaded.good {
+        return board;
+    }
+    let opened = loaded.board;
+    whole(opened, coloured);
+    opened
+}
+
 // Whether a letter is that of a command that has no words after it.
 fn stands_alone(verb: u8) -> bool {
     match verb {
-        b'l' | b'n' | b'd' | b'b' | b'h' | b'q' => true,
+        b'l' | b'n' | b'd' | b'b' | b'i' | b'h' | b'q' => true,
         _ => false,
     }
 }
@@ -395,6 +444,7 @@ fn show_command(
         b'n' => show_next(board, journal),
         b'd' => keys(&board.digits),
         b'b' => whole(board, coloured),
+        b'i' => show_line(board),
         _ => help(),
     }
 }
@@ -416,6 +466,7 @@ pub fn perform(
         b'u' | b'r' => undo_command(command, board, journal, coloured),
         b'c' => check_command(line, command, board, checks, coloured),
         b'o' => open_command(line, command, board, journal, checks, coloured),
+        b'z' => puzzle_command(line, command, board, journal, checks, coloured),
         b'w' => {
             save_command(line, command, board, journal, checks);
             board

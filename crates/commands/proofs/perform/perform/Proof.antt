@@ -7,7 +7,7 @@ use Rattle.sudoku.specs.Tests.{either}
 use Rattle.calls.specs.Encoded.{session}
 use Rattle.files.specs.Disk.{unread}
 use Rattle.commands.specs.Perform.{isMove, isUndo}
-use Rattle.commands.proofs.Performing.{not-move, not-undo, by-open, by-move, by-undo, by-check, by-none, by-other}
+use Rattle.commands.proofs.Performing.{not-move, not-undo, by-open, by-puzzle, by-move, by-undo, by-check, by-none, by-other}
 use borrow.Author.Needs.{needs}
 use Rattle.commands.proofs.perform.perform.Statement.{statement}
 use Rattle.commands.proofs.perform.perform.Tie as tie
@@ -23,6 +23,9 @@ check-command-requires c κs = search needs
 
 open-command-requires : tie.Need-open-command-requires
 open-command-requires c κs = search needs
+
+puzzle-command-requires : tie.Need-puzzle-command-requires
+puzzle-command-requires c κs = search needs
 
 save-command-requires : tie.Need-save-command-requires
 save-command-requires c κs = search needs
@@ -40,9 +43,9 @@ returns c =
       answers = unread;
       leaves =
           c .move-command .ensures (a .checks .now)
-          ∙ ⊎-elim (λ e. at 101 e refl refl)
-          (⊎-elim (λ e. at 109 e refl refl)
-          (⊎-elim (λ e. at 112 e refl refl) (λ e. at 115 e refl refl)))
+          ∙ ⊎-elim (λ e. at 101 e refl refl refl)
+          (⊎-elim (λ e. at 109 e refl refl refl)
+          (⊎-elim (λ e. at 112 e refl refl refl) (λ e. at 115 e refl refl refl)))
           (c .before .before .match .keys1);
     }
 
@@ -56,7 +59,7 @@ returns-2 c =
       answers = unread;
       leaves =
           c .undo-command .ensures (a .checks .now)
-          ∙ ⊎-elim (λ e. at 114 e refl refl refl) (λ e. at 117 e refl refl refl) (c .before .before .match .keys2);
+          ∙ ⊎-elim (λ e. at 114 e refl refl refl refl) (λ e. at 117 e refl refl refl refl) (c .before .before .match .keys2);
     }
 
 returns-3 : tie.Need-returns-3
@@ -79,32 +82,41 @@ returns-4 c =
     }
 
 returns-5 : tie.Need-returns-5
-unfolding isMove isUndo either
 returns-5 c =
     let a = c .before .before .before .before .before .args in
     record {
       file = unread;
       answers = unread;
-      leaves = by-other (a .line .now) (a .command) unread unread (session (a .board) (a .journal .now) (a .checks .now)) 119 (c .before .before .before .match .keys5) refl refl refl refl;
+      leaves = c .puzzle-command .ensures ∙ by-puzzle (a .line .now) (a .command) unread unread (session (a .board) (a .journal .now) (a .checks .now)) (c .before .before .before .match .keys5);
     }
 
 returns-6 : tie.Need-returns-6
 unfolding isMove isUndo either
 returns-6 c =
+    let a = c .before .before .before .before .before .args in
+    record {
+      file = unread;
+      answers = unread;
+      leaves = by-other (a .line .now) (a .command) unread unread (session (a .board) (a .journal .now) (a .checks .now)) 119 (c .before .before .before .match .keys6) refl refl refl refl refl;
+    }
+
+returns-7 : tie.Need-returns-7
+unfolding isMove isUndo either
+returns-7 c =
     let a = c .before .before .args in
     record {
       file = unread;
       answers = unread;
-      leaves = by-other (a .line .now) (a .command) unread unread (session (a .board) (a .journal .now) (a .checks .now)) 10 (c .match .keys6) refl refl refl refl;
+      leaves = by-other (a .line .now) (a .command) unread unread (session (a .board) (a .journal .now) (a .checks .now)) 10 (c .match .keys7) refl refl refl refl refl;
     }
 
-returns-7 : tie.Need-returns-7
-returns-7 c =
+returns-8 : tie.Need-returns-8
+returns-8 c =
     let a = c .before .before .before .before .args in
     let verb = a .command .verb in
     let none = c .before .before .match .rest in
-    let moves = none .0 .0 .0 .0 .0 .1 in
-    let undoes = none .0 .0 .0 .0 .1 in
+    let moves = none .0 .0 .0 .0 .0 .0 .1 in
+    let undoes = none .0 .0 .0 .0 .0 .1 in
     record {
       file = unread;
       answers = unread;
@@ -112,8 +124,9 @@ returns-7 c =
           by-none (a .line .now) (a .command) unread unread (session (a .board) (a .journal .now) (a .checks .now))
           (not-move verb (λ e. moves (inr (inr (inl e)))) (λ e. moves (inr (inl e))) (λ e. moves (inr (inr (inr e)))) (λ e. moves (inl e)))
           (not-undo verb (λ e. undoes (inr e)) (λ e. undoes (inl e)))
-          (ne-eqb verb 99 (none .0 .0 .0 .1))
-          (ne-eqb verb 111 (none .0 .0 .1));
+          (ne-eqb verb 99 (none .0 .0 .0 .0 .1))
+          (ne-eqb verb 111 (none .0 .0 .0 .1))
+          (ne-eqb verb 122 (none .0 .0 .1));
     }
 
 pub perform-spec : {M : Type 1} → statement M
@@ -124,6 +137,7 @@ perform-spec =
     undo-command-requires
     check-command-requires
     open-command-requires
+    puzzle-command-requires
     save-command-requires
     show-command-requires
     returns
@@ -132,4 +146,5 @@ perform-spec =
     returns-4
     returns-5
     returns-6
-    returns-7)
+    returns-7
+    returns-8)
