@@ -66,7 +66,7 @@ fn wanted(verb: u8) {
             b"open wants a record or a puzzle, and may have its solution: names of files without blanks\n",
         ),
         b'z' => say(
-            b"puzzle wants the 81 characters of a line, a blank, and the 81 digits of its solution\n",
+            b"puzzle wants a line of 81 characters and the 81 digits of its solution, as two words\n",
         ),
         _ => say(b"that command stands alone\n"),
     }
@@ -87,9 +87,9 @@ move K                   k   show move K, and the board as it stood after it\n\
 left                     d   show the digits left for each key\n\
 board                    b   draw the board again\n\
 save FILE                w   write the game to a file\n\
-open FILE [SOLUTION]     o   go on with a saved game, or open a puzzle; white space in its text is passed over\n\
-puzzle LINE SOLUTION     z   open a mailed line with its solution: 81 characters each, and nothing is passed over\n\
-line                     i   show the line of this puzzle, to mail it\n\
+open FILE [SOLUTION]     o   go on with a saved game, or open a puzzle; white space is passed over\n\
+puzzle LINE SOLUTION     z   open a mailed line and its solution: 81 characters each, none passed over\n\
+line                     i   show the line of this puzzle, to be mailed\n\
 help                     h   show this\n\
 quit                     q   leave\n\
 [5] is a given, 5 is yours, ! at its corners: the cell clashes. Marks stand small, each at its own place.\n",
