@@ -105,7 +105,7 @@ unfolding writing.givensOf writing.movesOf writing.askedOf writing.partsOf writi
 of-write = 0
 
 unfoldable of-lines : ℕ
-unfolding text.cellValue lines.isLine lines.valueAt lines.otherSort lines.lineRefusal lines.lineGivens lines.readRefusal lines.readLineOf lines.characterAt lines.lineOf lines.dotted lines.dottedLine
+unfolding text.cellValue lines.isLine lines.valueAt lines.otherSort lines.lineRefusal lines.lineGivens lines.readRefusal lines.readLineOf lines.characterAt lines.lineOf lines.writeLineNumber lines.writeLineOf lines.dotted lines.dottedLine
 of-lines = 0
 
 unfoldable of-reopen : ℕ

@@ -1,17 +1,18 @@
 -- The rows of lines hold: each computes.
 -- Assumes nothing.
 use mathlib.Core.Path.{refl}
-use Rattle.demands.specs.PuzzleLines.{lineA, room, LineRows}
+use Rattle.demands.specs.PuzzleLines.{bytesIn, lineA, lineG, room, LineRows}
 use Rattle.demands.proofs.Computing.{computing}
 
 pub line-rows : LineRows
-unfolding computing lineA room
+unfolding computing bytesIn lineA lineG room
 line-rows =
     record {
       reads = refl;
       line-feed = refl;
       dots = refl;
-      writes = refl;
+      comes-back = refl;
+      opens = refl;
       no-characters = refl;
       eighty = refl;
       eighty-two = refl;

@@ -13,13 +13,13 @@ use Rattle.puzzle.specs.Givens.{triples, tripleBytes, ascending}
 use Rattle.journal.specs.Bytes.{over}
 use Rattle.board.specs.declared.Board.{Board}
 use Rattle.board.specs.Board.{isBoard}
-use Rattle.board.specs.Open.{openOf, openedFresh}
+use Rattle.board.specs.Open.{openOf}
 use Rattle.record.specs.Write.{Wrote, wrote, givensOf}
-use Rattle.lines.specs.Lines.{lineBytes, givensRoom, lineGivens, readLineOf, lineOf, writeLineOf, dottedLine}
+use Rattle.lines.specs.Lines.{lineBytes, givensRoom, lineGivens, readLineOf, writeLineOf, dottedLine}
 use Rattle.calls.specs.declared.Call.{Call}
 use Rattle.calls.specs.Session.{Session, after, started}
 use Rattle.demands.specs.Demand3.{Reached}
-use Rattle.demands.specs.Positions.{solutionG, place, writeMark}
+use Rattle.demands.specs.Positions.{openG, place, writeMark}
 
 -- the bytes that a call has written
 unfoldable pub bytesIn : Wrote → List ℕ
@@ -43,6 +43,10 @@ pub record Yields (line : List ℕ) (givens : List Given) : Type 0 where
 unfoldable pub lineA : List ℕ
 lineA = 46 ∷ 52 ∷ replicate 39 46 ++ replicate 39 48 ++ 55 ∷ []
 
+-- two givens of solution G: 2 in cell 2 and 8 in cell 81
+unfoldable pub lineG : List ℕ
+lineG = 48 ∷ 50 ∷ replicate 78 48 ++ 56 ∷ 10 ∷ []
+
 -- an output of 250 bytes of 9
 unfoldable pub room : List ℕ
 room = replicate 250 9
@@ -51,10 +55,12 @@ pub record LineRows : Type 0 where
   pub reads : readLineOf lineA room ≡ wrote accepted 6 ((1 ∷ 2 ∷ 4 ∷ 9 ∷ 9 ∷ 7 ∷ []) ++ replicate 244 9)
   pub line-feed : readLineOf (lineA ++ 10 ∷ []) room ≡ readLineOf lineA room
   pub dots : dottedLine (lineA ++ 10 ∷ []) ≡ 46 ∷ 52 ∷ replicate 78 46 ++ 55 ∷ []
-  -- two givens of solution G, and a mark and a digit of the player's: givens alone are written
-  pub writes :
-      lineOf (after (started (openedFresh (triples (1 ∷ 2 ∷ 2 ∷ 9 ∷ 9 ∷ 8 ∷ [])) solutionG)) (writeMark 1 1 5 ∷ place 1 3 7 ∷ []) .board)
-      ≡ 46 ∷ 50 ∷ replicate 78 46 ++ 56 ∷ []
+  -- a line of two givens, with zeros and a line feed, opens with solution G; after a mark and a digit of the player's it
+  -- is written with full stops, into the front of 83 bytes
+  pub comes-back :
+      writeLineOf (after (started (openG (bytesIn (readLineOf lineG room)))) (writeMark 1 1 5 ∷ place 1 3 7 ∷ []) .board) (replicate 83 9)
+      ≡ wrote accepted 81 ((46 ∷ 50 ∷ replicate 78 46) ++ 56 ∷ 9 ∷ 9 ∷ [])
+  pub opens : openG (bytesIn (readLineOf lineG room)) .answer .refusal ≡ accepted
   -- 36: one character too few or too many, another byte than a line feed behind 81, a line feed more, nothing
   pub no-characters : readLineOf [] room ≡ wrote (refusal 36 0 0) 0 room
   pub eighty : readLineOf (take 80 lineA) room ≡ wrote (refusal 36 0 0) 0 room

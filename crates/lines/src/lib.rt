@@ -42,7 +42,7 @@ pub struct LineCells {
 
 // Givens as opening takes them: three bytes each, so many bytes in all.
 pub struct Givens {
-    pub bytes: [u8; 243],
+    pub bytes: [u8; GIVENS_ROOM],
     pub length: usize,
 }
 
@@ -146,7 +146,7 @@ fn lay_givens(digits: &[u8; 81], output: &mut [u8]) -> usize
 pub fn givens_of(digits: &[u8; 81]) -> Givens
     ensures { λ r. ⌜ r ≡ digitsGivens (now (digits .entry)) ⌝ }
 {
-    let mut bytes = [0u8; 243];
+    let mut bytes = [0u8; GIVENS_ROOM];
     let length = lay_givens(digits, &mut bytes);
     Givens {
         bytes: bytes,
