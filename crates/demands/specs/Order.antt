@@ -29,6 +29,6 @@ pub record Order : Type 0 where
   pub positions : Positions
   -- Layouts.antt: slots, stored checks, record items, encoded calls and number 17's cases, byte by byte, computed
   pub layouts : Layouts
-  -- PuzzleLines.antt: a written line read back yields the board's givens; a read line that opens, written from the board
-  -- after any calls, is that line; what a line yields ascends; a refused call writes nothing
+  -- PuzzleLines.antt: a written line read back yields the board's givens; a read line that opens, written from its
+  -- board after any calls, is that line; what a line yields ascends; a refused call writes nothing
   pub lines : LineTheorem

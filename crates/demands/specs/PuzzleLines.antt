@@ -30,7 +30,7 @@ pub record Untouched (w : Wrote) (output : List ℕ) : Type 0 where
   pub nothing : w .answer .length ≡ 0
   pub same : w .output ≡ output
 
--- a line yields these givens: into every output of 243 bytes or more, whatever it held; what opening reads there are they
+-- a line yields these givens: into every output of 243 bytes or more, whatever it held; and opening reads them there
 pub record Yields (line : List ℕ) (givens : List Given) : Type 0 where
   pub read :
       (output : List ℕ)
@@ -55,8 +55,8 @@ pub record LineRows : Type 0 where
   pub reads : readLineOf lineA room ≡ wrote accepted 6 ((1 ∷ 2 ∷ 4 ∷ 9 ∷ 9 ∷ 7 ∷ []) ++ replicate 244 9)
   pub line-feed : readLineOf (lineA ++ 10 ∷ []) room ≡ readLineOf lineA room
   pub dots : dottedLine (lineA ++ 10 ∷ []) ≡ 46 ∷ 52 ∷ replicate 78 46 ++ 55 ∷ []
-  -- a line of two givens, with zeros and a line feed, opens with solution G; after a mark and a digit of the player's it
-  -- is written with full stops, into the front of 83 bytes
+  -- a line of two givens, with zeros and a line feed, opens with solution G; after a mark and a digit of the player's
+  -- it is written with full stops, into the front of 83 bytes
   pub comes-back :
       writeLineOf (after (started (openG (bytesIn (readLineOf lineG room)))) (writeMark 1 1 5 ∷ place 1 3 7 ∷ []) .board) (replicate 83 9)
       ≡ wrote accepted 81 ((46 ∷ 50 ∷ replicate 78 46) ++ 56 ∷ 9 ∷ 9 ∷ [])
