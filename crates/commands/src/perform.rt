@@ -87,11 +87,12 @@ move K                   k   show move K, and the board as it stood after it\n\
 left                     d   show the digits left for each key\n\
 board                    b   draw the board again\n\
 save FILE                w   write the game to a file\n\
-open FILE [SOLUTION]     o   go on with a saved game, or open a puzzle; white space is passed over\n\
-puzzle LINE SOLUTION     z   open a mailed line and its solution: 81 characters each, none passed over\n\
+open FILE [SOLUTION]     o   go on with a saved game, or open a puzzle\n\
+puzzle LINE SOLUTION     z   open a mailed line; both of exactly 81 characters\n\
 line                     i   show the line of this puzzle, to be mailed\n\
 help                     h   show this\n\
 quit                     q   leave\n\
+A puzzle's file may have white space among its 81 cells; a mailed line has none.\n\
 [5] is a given, 5 is yours, ! at its corners: the cell clashes. Marks stand small, each at its own place.\n",
     );
 }

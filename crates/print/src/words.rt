@@ -1,4 +1,5 @@
-// Every refusal in plain words, here and nowhere else. Numbers, places and inner numbers are document 01's.
+// Every refusal in plain words, here and nowhere else. Numbers, places and inner numbers are the documents'.
+use crate::counted;
 use crate::is_printable;
 use crate::number;
 use crate::say;
@@ -145,7 +146,7 @@ fn of_an_item(r: Refusal) {
 // 36 and 37: of a puzzle's line.
 fn of_a_line(r: Refusal) {
     if r.number == 36 {
-        say(b"a line is 81 characters, with at most one line feed after them");
+        say(b"a line has 81 characters, and at most one line feed behind them");
         return;
     }
     at_place(b"character ", r.place, b"");
@@ -198,7 +199,8 @@ fn found(byte: u8) {
 // a fault of the reader, and by 37 which one is of another sort.
 fn what_came(r: Refusal, line: &[u8]) {
     if r.number == 36 {
-        at_place(b"; ", line.len(), b" came, counted in bytes");
+        say(b"; ");
+        counted(line.len(), b" byte came", b" bytes came");
         return;
     }
     if r.place > 0 {
