@@ -142,7 +142,8 @@ enum {
     PAWDOKU_CHECK_REFUSED = 31,            /* place: the check; inner: 3, 5 or 8 */
     PAWDOKU_CHECK_AFTER_NO_MOVE = 32,      /* place: the check */
     PAWDOKU_CHECK_WOULD_SOLVE = 33,        /* place: the check: a right digit where one cell was to play */
-    PAWDOKU_OUTPUT_TOO_SHORT = 34,         /* reading a line: below PAWDOKU_LINE_GIVENS, however few its givens */
+    PAWDOKU_OUTPUT_TOO_SHORT = 34,         /* of a line: below PAWDOKU_LINE_GIVENS to read one, however few its givens,
+                                            * below PAWDOKU_LINE_BYTES to write one */
     PAWDOKU_NO_SUCH_MOVE = 35,             /* a reading of move 0 or of one above made */
     PAWDOKU_NOT_A_LINE = 36,               /* neither 81 bytes nor 82 of which the last is a line feed */
     PAWDOKU_NO_LINE_CHARACTER = 37,        /* place: the first character of another sort, counted from 1 */
@@ -296,14 +297,17 @@ pawdoku_answer pawdoku_reopen(const uint8_t *record, size_t record_length,
 
 /* Puzzle lines, as setters mail them: 81 characters, row by row, '1' to '9' for a given, '.' or '0' for a blank, and at
  * most one line feed behind them. A line is no proof that its puzzle has one solution and no other; and it holds none:
- * opening takes the solution beside the givens. */
+ * opening takes the solution beside the givens. A given that became another digit on the way is still a line, which
+ * opening refuses by 27 where the solution has another digit there; one that became a blank nothing notices. */
 
 /* Reads a line into givens: `length` bytes of the output, which can go straight to pawdoku_open. The output has
- * PAWDOKU_LINE_GIVENS bytes or more, however few the givens are; those beyond them stay. Nothing in a line is passed
- * over: one from a file with CR LF is refused by 36. Refused by 34, 36, 37. */
+ * PAWDOKU_LINE_GIVENS bytes or more, however few the givens are; those beyond them stay. `line_length` counts the line
+ * feed where there is one, and no zero behind it. Nothing in a line is passed over: one from a file with CR LF is
+ * refused by 36. Refused by 34, 36, 37. */
 pawdoku_written pawdoku_read_line(const uint8_t *line, size_t line_length, uint8_t *output, size_t output_length);
-/* Writes the board's givens as a line: a full stop for every other cell, whatever the player put there, and no line
- * feed. Bytes of the output beyond its PAWDOKU_LINE_BYTES stay. Refused by 2, 34. */
+/* Writes the board's givens as a line: a full stop for every other cell, whatever the player put there; no line feed
+ * and no zero behind it, so it is no C string. The output has PAWDOKU_LINE_BYTES bytes or more; those beyond them stay.
+ * Refused by 2, 34. */
 pawdoku_written pawdoku_write_line(pawdoku_board board, uint8_t *output, size_t output_length);
 
 /* The reading of move k, from 1 to made. Refused by 1, 2, 14, 35. */

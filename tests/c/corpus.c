@@ -3,8 +3,8 @@
  *     corpus COUNT       reads as many pairs from standard input, each a line of its own: 81 characters of a puzzle
  *                        with full stops for blanks, a space, and the 81 digits of its solution
  *
- * Fewer pairs than COUNT are an error. What is lent has guards (lent.h), and is another for each puzzle. What is played
- * is drawn by the puzzle's number: the same pairs are played in the same way. */
+ * Fewer pairs than COUNT are an error. What is lent has guards (lent.h), and stands elsewhere at each call. What is
+ * played is drawn by the puzzle's number: the same pairs are played in the same way. */
 #define _DEFAULT_SOURCE 1
 #include "pawdoku.h"
 

@@ -65,7 +65,7 @@ static void lent_make(struct lent *l)
     uint8_t *pages = mmap(NULL, LENT_ARENA + 2 * LENT_PAGE, PROT_READ | PROT_WRITE, MAP_PRIVATE | MAP_ANONYMOUS, -1, 0);
     if (pages == MAP_FAILED || mprotect(pages, LENT_PAGE, PROT_NONE) != 0
         || mprotect(pages + LENT_PAGE + LENT_ARENA, LENT_PAGE, PROT_NONE) != 0) {
-        fprintf(stderr, "fuzz: no memory\n");
+        fprintf(stderr, "no memory to lend\n");
         exit(2);
     }
     l->arena = pages + LENT_PAGE;

@@ -1,14 +1,19 @@
--- Laws for the walks over the 81 cells of a board value: a loop counts i from 0, and cell i + 1 stands at i.
+-- Laws for the walks over the 81 cells of a board value: a loop counts i from 0, and cell i + 1 stands at i. And what
+-- number 2 leaves of its digits.
 -- Assumes nothing.
 use Prim.Native.Nat.{ℕ, _+_, _-_, _≤_, _<_}
 use mathlib.Core.Path.{_≡_, refl, sym, ap, _∙_}
 use mathlib.Core.Bool.{Bool, true}
 use mathlib.Core.List.{List}
 use native.Mathlib.Omega.{arith}
+use borrow.Author.Tests.{leb-true}
+use lib.Dec.{leb}
 use lib.ListN.{getD}
 use Rattle.sudoku.specs.Tests.{both, every}
 use Rattle.sudoku.specs.Grid.{at}
-use Rattle.sudoku.proofs.Walks.{both-assoc, both-second, every-step, every-all}
+use Rattle.sudoku.proofs.Walks.{both-assoc, both-second, both-left, both-right, every-step, every-all, every-at}
+use Rattle.board.specs.declared.Board.{Board}
+use Rattle.board.specs.Board.{isBoard, mayStand, digitValue}
 
 back-one : (i : ℕ) → i + 1 - 1 ≡ i
 back-one i = omega arith
@@ -34,3 +39,14 @@ turn f all ok r i h e w =
 -- at the end nothing is left
 pub at-end : (f : ℕ → Bool) (all ok : Bool) (i : ℕ) → 81 ≤ i → all ≡ both ok (every f (82 - (i + 1)) (i + 1)) → ok ≡ all
 at-end f all ok i h w = sym (w ∙ ap (both ok) (every-all f 82 (i + 1) (omega arith)) ∙ both-second ok true refl)
+
+-- ---- what number 2 leaves of a board's digits
+
+pub board-digits : (b : Board) → isBoard b ≡ true → every (digitValue (b .digits) (b .given)) 81 1 ≡ true
+unfolding isBoard
+board-digits b t =
+    both-left _ _ (both-right (leb (b .solved) 1) _ (both-right _ _ (both-right _ _ (both-right _ _ t))))
+
+pub digit-small : (digits given : List ℕ) (cell : ℕ) → every (digitValue digits given) 81 1 ≡ true → 1 ≤ cell → cell ≤ 81 → at digits cell ≤ 9
+unfolding digitValue mayStand
+digit-small digits given cell t l u = leb-true (at digits cell) 9 (both-left _ _ (every-at (digitValue digits given) 81 1 cell t l (omega arith)))

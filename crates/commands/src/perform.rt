@@ -80,7 +80,7 @@ mark ROW COLUMN DIGIT    m   pencil a mark\n\
 strike ROW COLUMN DIGIT  s   strike a mark\n\
 undo                     u   take back the latest move\n\
 redo                     r   make the next undone move again\n\
-check ROW COLUMN         c   ask whether your digit is right; the question is kept\n\
+check ROW COLUMN         c   ask whether your digit is right; that is kept\n\
 latest                   l   show the latest standing move\n\
 next                     n   show the next move to redo\n\
 move K                   k   show move K, and the board as it stood after it\n\
@@ -93,7 +93,8 @@ line                     i   show the line of this puzzle, to be mailed\n\
 help                     h   show this\n\
 quit                     q   leave\n\
 A puzzle's file may have white space among its 81 cells; a mailed line has none.\n\
-[5] is a given, 5 is yours, ! at its corners: the cell clashes. Marks stand small, each at its own place.\n",
+[5] is a given, 5 is yours, ! at its corners: the cell clashes.\n\
+Marks stand small, each at its own place.\n",
     );
 }
 

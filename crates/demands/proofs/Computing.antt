@@ -101,11 +101,11 @@ unfolding scan.body2 scan.body3 scan.body5 scan.byKind scan.takeItem scan.goOn s
 of-scan = 0
 
 unfoldable of-write : ℕ
-unfolding writing.givensOf writing.movesOf writing.askedOf writing.partsOf writing.unsoundCheck writing.unwritable writing.writeRefusal writing.writeOf
+unfolding writing.givensOf writing.movesOf writing.askedOf writing.partsOf writing.unsoundCheck writing.unwritable writing.writeRefusal writing.wroteBy writing.writeOf
 of-write = 0
 
 unfoldable of-lines : ℕ
-unfolding text.cellValue lines.isLine lines.valueAt lines.otherSort lines.lineRefusal lines.lineGivens lines.readRefusal lines.readLineOf lines.characterAt lines.lineOf lines.writeLineNumber lines.writeLineOf lines.dotted lines.dottedLine
+unfolding text.cellValue lines.isLine lines.valueAt lines.otherSort lines.lineRefusal lines.lineGivens lines.readRefusal lines.readLineOf lines.characterAt lines.lineOf lines.writeLineRefusal lines.writeLineOf lines.dotted lines.dottedLine
 of-lines = 0
 
 unfoldable of-reopen : ℕ

@@ -21,8 +21,13 @@ line-rows =
       two-feeds = refl;
       feed-as-81 = refl;
       first-of-two = refl;
+      below-0 = refl;
       above-9 = refl;
       too-short = refl;
       before-36 = refl;
       just-long-enough = refl;
+      write-too-short = refl;
+      write-long-enough = refl;
+      no-board = refl;
+      before-34 = refl;
     }

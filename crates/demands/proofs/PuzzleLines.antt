@@ -1,28 +1,28 @@
 -- Puzzle lines, proved: the round trips of crate lines, carried to boards that calls reach.
 -- Assumes nothing.
-use Prim.Native.Nat.{ℕ, _+_, _≤_}
+use Prim.Native.Nat.{ℕ, _≤_}
 use mathlib.Core.Path.{_≡_, refl, sym, ap, subst, _∙_}
 use mathlib.Core.Bool.{true}
 use mathlib.Core.List.{List, []}
 use native.Mathlib.Omega.{arith}
 use borrow.Author.Tests.{eqb-true, ltb-false}
-use lib.Dec.{ltb, eqb}
+use lib.Dec.{ltb}
 use lib.ListN.{length, take}
 use Rattle.sudoku.specs.Grid.{inRange}
-use Rattle.sudoku.proofs.Walks.{by-test, not-both-ways, pick-true, pick-false, count-le}
+use Rattle.sudoku.proofs.Walks.{by-test, not-both-ways, pick-true, pick-false}
 use Rattle.sudoku.proofs.Listed.{length-listed}
 use Rattle.puzzle.specs.declared.Given.{Given}
+use Rattle.puzzle.specs.declared.Refusal.{Refusal}
 use Rattle.puzzle.specs.Refusals.{refusal, accepted, isAccepted, refusedIf}
-use Rattle.puzzle.specs.Givens.{triples, tripleBytes, givensBy}
+use Rattle.puzzle.specs.Givens.{triples, tripleBytes}
 use Rattle.puzzle.proofs.Accepted.{accepts, if-passed, or-else-left, or-else-right}
-use Rattle.puzzle.proofs.GivensBy.{by-length, triples-back, length-triples, bytes-back}
+use Rattle.puzzle.proofs.GivensBy.{by-room, triples-back, bytes-back}
 use Rattle.journal.specs.Bytes.{over}
-use Rattle.journal.proofs.Memory.{take-over-end}
 use Rattle.board.specs.declared.Board.{Board}
 use Rattle.board.specs.Board.{isBoard}
 use Rattle.board.specs.Open.{Opened, openOf, openedFresh, noMoves, noChecks}
-use Rattle.record.specs.Write.{Wrote, wrote, givensOf}
-use Rattle.lines.specs.Lines.{lineBytes, givensRoom, valueAt, lineRefusal, lineGivens, readRefusal, readLineOf, characterAt, lineOf, writeLineNumber, writeLineOf, dottedLine}
+use Rattle.record.specs.Write.{Wrote, wrote, wroteBy, givensOf}
+use Rattle.lines.specs.Lines.{lineBytes, givensRoom, valueAt, lineRefusal, lineGivens, readRefusal, readLineOf, characterAt, lineOf, writeLineRefusal, writeLineOf, dottedLine}
 use Rattle.lines.proofs.Reading.{is-read}
 use Rattle.lines.proofs.Writing.{is-written}
 use Rattle.lines.proofs.RoundTrip.{line-ascends, line-read, same-givens as read-givens, line-again}
@@ -34,29 +34,41 @@ use Rattle.demands.specs.Demand3.{boardIn, Openable, Reached, bookOf}
 use Rattle.demands.specs.PuzzleLines.{bytesIn, Untouched, Yields, LineTheorem}
 use Rattle.demands.proofs.Opening.{opens-exactly, opened}
 use Rattle.demands.proofs.Good.{Good, good-new, good-keep}
-use Rattle.demands.proofs.Held.{good-board}
+use Rattle.demands.proofs.Held.{good-board, starts-with}
 use Rattle.demands.proofs.Lists.{agrees-all, keep-givens, fresh-session, fresh-held, of-book}
 use Rattle.demands.proofs.Writing.{same-givens}
 use Rattle.demands.proofs.LineRows.{line-rows}
 
 -- ---- what a call has written
 
--- bytes laid at the front of a long enough output are what is there
-laid-front : (output bytes : List ℕ) → length bytes ≤ length output → take (length bytes) (over output 0 bytes) ≡ bytes
-laid-front output bytes h =
-    ap (λ (n : ℕ). take n (over output 0 bytes)) {x = length bytes} {y = 0 + length bytes} (omega arith) ∙ take-over-end output 0 bytes (omega arith)
-
 bytes-of : (w : Wrote) (output bytes : List ℕ) → length bytes ≤ length output → w ≡ wrote accepted (length bytes) (over output 0 bytes) → bytesIn w ≡ bytes
 unfolding bytesIn
-bytes-of w output bytes h e = ap (λ (x : Wrote). take (x .answer .length) (x .output)) e ∙ laid-front output bytes h
+bytes-of w output bytes h e = ap (λ (x : Wrote). take (x .answer .length) (x .output)) e ∙ starts-with output bytes h
+
+-- an accepted answer is to a call that was not refused, and a refused one leaves all as it was
+module _ (r : Refusal) (bytes output : List ℕ) where
+  was-accepted : wroteBy r bytes output .answer .refusal ≡ accepted → isAccepted r ≡ true
+  unfolding wroteBy
+  was-accepted h =
+      by-test (isAccepted r) (λ t. t)
+      (λ t.
+      absurd
+      (not-both-ways (isAccepted r)
+      (accepts r (sym (ap (λ (w : Wrote). w .answer .refusal) (pick-false (isAccepted r) _ (wrote r 0 output) t)) ∙ h)) t))
+
+  untouched : (wroteBy r bytes output .answer .refusal .number ≡ 0 → ⊥) → Untouched (wroteBy r bytes output) output
+  unfolding wroteBy
+  untouched n =
+      by-test (isAccepted r)
+      (λ t. absurd (n (ap (λ (w : Wrote). w .answer .refusal .number) (pick-true _ _ _ t))))
+      (λ t. record { nothing = ap (λ (w : Wrote). w .answer .length) (pick-false _ _ _ t); same = ap (λ (w : Wrote). w .output) (pick-false _ _ _ t) })
 
 -- ---- reading
 
 module _ (line : List ℕ) (t : isAccepted (lineRefusal line) ≡ true) where
   short : length (tripleBytes (lineGivens line)) ≤ givensRoom
   unfolding lineGivens
-  short =
-      omega (arith, length-triples (givensBy (λ cell. inRange (valueAt line cell)) (valueAt line) 81 1), by-length (λ cell. inRange (valueAt line cell)) (valueAt line) 81 1, count-le (λ cell. inRange (valueAt line cell)) 81 1)
+  short = by-room (λ cell. inRange (valueAt line cell)) (valueAt line)
 
   reads : (output : List ℕ) → givensRoom ≤ length output
       → readLineOf line output ≡ wrote accepted (length (tripleBytes (lineGivens line))) (over output 0 (tripleBytes (lineGivens line)))
@@ -77,12 +89,7 @@ module _ (line : List ℕ) (t : isAccepted (lineRefusal line) ≡ true) where
 module _ (line output : List ℕ) (h : readLineOf line output .answer .refusal ≡ accepted) where
   read-accepted : isAccepted (readRefusal line output) ≡ true
   unfolding readLineOf
-  read-accepted =
-      by-test (isAccepted (readRefusal line output)) (λ t. t)
-      (λ t.
-      absurd
-      (not-both-ways (isAccepted (readRefusal line output))
-      (accepts _ (sym (ap (λ (w : Wrote). w .answer .refusal) (pick-false (isAccepted (readRefusal line output)) _ (wrote (readRefusal line output) 0 output) t)) ∙ h)) t))
+  read-accepted = was-accepted (readRefusal line output) (tripleBytes (lineGivens line)) output h
 
   was-line : isAccepted (lineRefusal line) ≡ true
   unfolding readRefusal
@@ -194,17 +201,11 @@ opened-read givens solution journal checks output room q fits enough =
 
 read-refused : (line output : List ℕ) → (readLineOf line output .answer .refusal .number ≡ 0 → ⊥) → Untouched (readLineOf line output) output
 unfolding readLineOf
-read-refused line output n =
-    by-test (isAccepted (readRefusal line output))
-    (λ t. absurd (n (ap (λ (w : Wrote). w .answer .refusal .number) (pick-true _ _ _ t))))
-    (λ t. record { nothing = ap (λ (w : Wrote). w .answer .length) (pick-false _ _ _ t); same = ap (λ (w : Wrote). w .output) (pick-false _ _ _ t) })
+read-refused line output n = untouched (readRefusal line output) (tripleBytes (lineGivens line)) output n
 
 write-refused : (b : Board) (output : List ℕ) → (writeLineOf b output .answer .refusal .number ≡ 0 → ⊥) → Untouched (writeLineOf b output) output
 unfolding writeLineOf
-write-refused b output n =
-    by-test (eqb (writeLineNumber b output) 0)
-    (λ t. absurd (n (ap (λ (w : Wrote). w .answer .refusal .number) (pick-true _ _ _ t))))
-    (λ t. record { nothing = ap (λ (w : Wrote). w .answer .length) (pick-false _ _ _ t); same = ap (λ (w : Wrote). w .output) (pick-false _ _ _ t) })
+write-refused b output n = untouched (writeLineRefusal b output) (lineOf b) output n
 
 pub line-theorem : LineTheorem
 line-theorem =

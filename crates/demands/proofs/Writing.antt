@@ -25,7 +25,7 @@ use Rattle.journal.specs.StoredChecks.{Stored}
 use Rattle.board.specs.Board.{stateOf, boardOf}
 use Rattle.play.specs.Play.{journalRefusal}
 use Rattle.record.specs.Items.{Parts, recordOf}
-use Rattle.record.specs.Write.{givensOf, movesOf, askedOf, partsOf, unwritable, writeRefusal, writeOf, wrote}
+use Rattle.record.specs.Write.{givensOf, movesOf, askedOf, partsOf, unwritable, writeRefusal, wrote, wroteBy, writeOf}
 use Rattle.record.proofs.Givens.{givens-kept}
 use Rattle.record.proofs.Lengths.{record-short}
 use Rattle.record.proofs.Held.{StoredFits, CheckSound, asked-held, checks-sound}
@@ -101,7 +101,7 @@ module _ (k : Book) (journal checks : List ℕ) (g : Good k) (h : Held journal c
 
   written : (output : List ℕ) → length (recordIn k) ≤ length output
       → writeSession (sessionOf k journal checks) output ≡ wrote accepted (length (recordIn k)) (over output 0 (recordIn k))
-  unfolding writeSession writeOf writeRefusal recordIn
+  unfolding writeSession writeOf wroteBy writeRefusal recordIn
   written output e =
       pick-true _ _ _
       (accepts _
@@ -119,7 +119,7 @@ module _ (k : Book) (journal checks : List ℕ) (g : Good k) (h : Held journal c
 
   too-short : (output : List ℕ) → length output < length (recordIn k)
       → writeSession (sessionOf k journal checks) output ≡ wrote (refusal 34 0 0) 0 output
-  unfolding writeSession writeOf isAccepted
+  unfolding writeSession writeOf wroteBy isAccepted
   too-short output u =
       pick-false _ _ _ (ap isAccepted (refused-short output u)) ∙ ap (λ (r : Refusal). wrote r 0 output) (refused-short output u)
 

@@ -12,7 +12,7 @@ use Rattle.puzzle.specs.Refusals.{refusal, accepted}
 use Rattle.puzzle.specs.Givens.{triples, tripleBytes, ascending}
 use Rattle.journal.specs.Bytes.{over}
 use Rattle.board.specs.declared.Board.{Board}
-use Rattle.board.specs.Board.{isBoard}
+use Rattle.board.specs.Board.{isBoard, zeroBoard}
 use Rattle.board.specs.Open.{openOf}
 use Rattle.record.specs.Write.{Wrote, wrote, givensOf}
 use Rattle.lines.specs.Lines.{lineBytes, givensRoom, lineGivens, readLineOf, writeLineOf, dottedLine}
@@ -71,11 +71,17 @@ pub record LineRows : Type 0 where
   -- 37: the first character of another sort; a line feed as character 81 is one
   pub feed-as-81 : readLineOf (take 80 lineA ++ 10 ∷ []) room ≡ wrote (refusal 37 81 0) 0 room
   pub first-of-two : readLineOf (46 ∷ 120 ∷ 47 ∷ replicate 78 46) room ≡ wrote (refusal 37 2 0) 0 room
+  pub below-0 : readLineOf (47 ∷ replicate 80 46) room ≡ wrote (refusal 37 1 0) 0 room
   pub above-9 : readLineOf (58 ∷ replicate 80 46) room ≡ wrote (refusal 37 1 0) 0 room
   -- 34, before all else: 242 bytes, however few the givens
   pub too-short : readLineOf (replicate 81 46) (replicate 242 9) ≡ wrote (refusal 34 0 0) 0 (replicate 242 9)
   pub before-36 : readLineOf [] [] ≡ wrote (refusal 34 0 0) 0 []
   pub just-long-enough : readLineOf (replicate 81 46) (replicate 243 9) ≡ wrote accepted 0 (replicate 243 9)
+  -- writing: 34 for 80 bytes, none for 81; 2, and before 34, for the board of a refused opening, which has no solution
+  pub write-too-short : writeLineOf (openG [] .answer .board) (replicate 80 9) ≡ wrote (refusal 34 0 0) 0 (replicate 80 9)
+  pub write-long-enough : writeLineOf (openG [] .answer .board) (replicate 81 9) ≡ wrote accepted 81 (replicate 81 46)
+  pub no-board : writeLineOf zeroBoard (replicate 81 9) ≡ wrote (refusal 2 0 0) 0 (replicate 81 9)
+  pub before-34 : writeLineOf zeroBoard [] ≡ wrote (refusal 2 0 0) 0 []
 
 pub record LineTheorem : Type 0 where
   pub written-read :

@@ -39,3 +39,7 @@ pub stored : (l : List ℕ) (i b : ℕ) (bs : List ℕ) → i + length (b ∷ bs
 stored l i b bs h =
     let e : i + 1 ≡ suc i = omega arith in
     stores-sets (set l i b) i 1 bs ∙ rw e (laid-sets l i (b ∷ bs) h)
+
+-- one byte stored
+pub one-laid : (l : List ℕ) (i b : ℕ) → i < length l → set l i b ≡ over l i (b ∷ [])
+one-laid l i b h = stored l i b [] (omega arith) ∙ laid-over l i (b ∷ []) (omega arith)

@@ -9,22 +9,23 @@ use native.Mathlib.Omega.{arith}
 use borrow.Author.Tests.{eqb-true, eqb-false, eq-eqb, ne-eqb, lt-ltb, le-ltb, ltb-false}
 use lib.Dec.{ltb, eqb}
 use lib.ListN.{length, getD, replicate}
-use Rattle.sudoku.specs.Tests.{pick, both}
+use Rattle.sudoku.specs.Tests.{pick}
 use Rattle.sudoku.specs.Grid.{inRange, at}
-use Rattle.sudoku.proofs.Walks.{pick-true, pick-false, by-test, not-is-true, not-is-false, count-le}
+use Rattle.sudoku.proofs.Walks.{by-test, not-is-true, not-is-false}
 use Rattle.sudoku.proofs.Listed.{listed-at}
-use Rattle.sudoku.proofs.Grid.{in-range}
+use Rattle.sudoku.proofs.Grid.{in-range, range-zero}
 use Rattle.puzzle.specs.declared.Refusal.{Refusal}
 use Rattle.puzzle.specs.declared.Given.{Given}
 use Rattle.puzzle.specs.Refusals.{refusal, accepted, isAccepted, refusedIf, firstRefused}
-use Rattle.puzzle.specs.Givens.{tripleBytes, givensBy}
+use Rattle.puzzle.specs.Givens.{tripleBytes}
 use Rattle.puzzle.specs.Puzzle.{holdsDigit}
 use Rattle.puzzle.specs.Text.{cellValue}
 use Rattle.puzzle.proofs.Accepted.{if-not, if-passed, first-at, or-else-right}
 use Rattle.puzzle.proofs.Refusals.{refused-if, or-else-by, or-else-past}
-use Rattle.puzzle.proofs.GivensBy.{by-same, by-length, bytesLeft, bytes-turn, bytes-none, length-triples}
+use Rattle.puzzle.proofs.GivensBy.{by-same, by-room, bytesLeft, bytes-turn, bytes-none}
 use Rattle.journal.specs.Bytes.{over}
 use Rattle.record.specs.Write.{wrote}
+use Rattle.record.proofs.Writing.{wrote-nothing, wrote-bytes}
 use Rattle.lines.specs.Lines.{givensRoom, isLine, valueAt, otherSort, lineRefusal, valuesOf, lineCells, lineGivens, digitsBytes, readRefusal, readLineOf}
 use Rattle.lines.specs.Code.Triples.{givenBytes}
 
@@ -81,10 +82,6 @@ value-small line cell h l u =
     let all = or-else-right (refusedIf (not (isLine line)) (refusal 36 0 0)) _ h in
     ltb-false 9 (valueAt line cell) (if-passed _ (refusal 37 cell 0) refl (first-at (otherSort line) 81 1 all cell l (omega arith)))
 
-pub range-zero : inRange 0 ≡ false
-unfolding inRange both
-range-zero = refl
-
 -- so that it says a digit exactly where it is not a blank
 holds-in-range : (v : ℕ) → v ≤ 9 → not (eqb v 0) ≡ inRange v
 holds-in-range v h =
@@ -107,7 +104,7 @@ module _ (digits : List ℕ) where
   -- 243 bytes are room for all of them
   pub digits-room : length (digitsBytes digits) ≤ givensRoom
   unfolding digitsBytes
-  digits-room = omega (arith, length-triples (givensBy (holdsDigit digits) (at digits) 81 1), by-length (holdsDigit digits) (at digits) 81 1, count-le (holdsDigit digits) 81 1)
+  digits-room = by-room (holdsDigit digits) (at digits)
 
   -- what is left to lay from a cell on
   abbrev pub digitsLeft : ℕ → List ℕ
@@ -134,17 +131,10 @@ module _ (line output : List ℕ) where
   abbrev bytes : List ℕ
   bytes = tripleBytes (lineGivens line)
 
-  refuses : (x : Refusal) → readRefusal line output ≡ x → (x .number ≡ 0 → ⊥) → wrote x 0 output ≡ readLineOf line output
-  unfolding readLineOf isAccepted
-  refuses x w n =
-      sym
-      (pick-false (isAccepted (readRefusal line output)) _ _ (ap isAccepted w ∙ ne-eqb (x .number) 0 n)
-      ∙ ap (λ (y : Refusal). wrote y 0 output) w)
-
   pub no-room : length output < givensRoom → wrote (refusal 34 0 0) 0 output ≡ readLineOf line output
-  unfolding readRefusal
+  unfolding readLineOf readRefusal
   no-room h =
-      refuses (refusal 34 0 0)
+      wrote-nothing (readRefusal line output) bytes output (refusal 34 0 0)
       (or-else-by _ _ (refusal 34 0 0) (refused-if _ (refusal 34 0 0) (lt-ltb (length output) givensRoom h)) (eqb-false 34 0 refl))
       (eqb-false 34 0 refl)
 
@@ -154,8 +144,9 @@ module _ (line output : List ℕ) where
     by-line = or-else-past _ _ (if-not _ (refusal 34 0 0) (le-ltb (length output) givensRoom room)) ∙ sym e
 
     pub not-read : (r .number ≡ 0 → ⊥) → wrote r 0 output ≡ readLineOf line output
-    not-read n = refuses r by-line n
+    unfolding readLineOf
+    not-read n = wrote-nothing (readRefusal line output) bytes output r by-line n
 
     pub is-read : r .number ≡ 0 → wrote accepted (length bytes) (over output 0 bytes) ≡ readLineOf line output
-    unfolding readLineOf isAccepted
-    is-read z = sym (pick-true (isAccepted (readRefusal line output)) _ _ (ap isAccepted by-line ∙ eq-eqb (r .number) 0 z))
+    unfolding readLineOf
+    is-read z = wrote-bytes (readRefusal line output) bytes output (ap (λ (x : Refusal). x .number) by-line ∙ z)

@@ -14,7 +14,7 @@ use Rattle.sudoku.specs.Tests.{pick, both, listed}
 use Rattle.sudoku.specs.Grid.{inRange, at}
 use Rattle.sudoku.proofs.Walks.{by-test, not-both-ways, pick-true, pick-false, both-true, both-left, both-right, either-left, either-cases, every-at}
 use Rattle.sudoku.proofs.Listed.{length-listed, listed-at, listed-agree, listed-shift}
-use Rattle.sudoku.proofs.Grid.{in-range, range-to}
+use Rattle.sudoku.proofs.Grid.{in-range, range-to, range-zero}
 use Rattle.puzzle.specs.declared.Given.{Given}
 use Rattle.puzzle.specs.Refusals.{refusal, accepted, isAccepted}
 use Rattle.puzzle.specs.Givens.{isOn, isGiven, ascending}
@@ -26,8 +26,8 @@ use Rattle.board.specs.declared.Board.{Board}
 use Rattle.board.specs.Board.{isBoard, mayStand, digitValue}
 use Rattle.record.specs.Write.{givensOf}
 use Rattle.lines.specs.Lines.{lineBytes, isLine, valueAt, otherSort, lineRefusal, lineGivens, characterAt, lineOf, dotted, dottedLine}
-use Rattle.lines.proofs.Reading.{a-line, value-small, range-zero}
-use Rattle.lines.proofs.Writing.{board-digits}
+use Rattle.lines.proofs.Reading.{a-line, value-small}
+use Rattle.board.proofs.Values.{board-digits}
 
 -- ---- the givens of a line ascend
 

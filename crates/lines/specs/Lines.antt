@@ -3,21 +3,21 @@
 -- Assumes nothing.
 use Prim.Native.Nat.{ℕ, _+_, _*_}
 use mathlib.Core.Bool.{Bool, not}
-use mathlib.Core.List.{List, [], _∷_, map}
+use mathlib.Core.List.{List, map}
 use lib.Dec.{ltb, eqb}
 use lib.ListN.{length, getD, take, replicate}
-use Rattle.sudoku.specs.Tests.{_⇒_, first, pick, both, either, listed}
+use Rattle.sudoku.specs.Tests.{pick, both, either, listed}
 use Rattle.sudoku.specs.Grid.{inRange, at}
 use Rattle.puzzle.specs.declared.Given.{Given}
 use Rattle.puzzle.specs.declared.Refusal.{Refusal}
-use Rattle.puzzle.specs.Refusals.{refusal, accepted, isAccepted, refusedIf, orElse, firstRefused}
+use Rattle.puzzle.specs.Refusals.{refusal, isAccepted, refusedIf, orElse, firstRefused}
 use Rattle.puzzle.specs.Givens.{isGiven, givensBy, tripleBytes}
 use Rattle.puzzle.specs.Puzzle.{holdsDigit}
 use Rattle.puzzle.specs.Text.{cellValue}
 use Rattle.journal.specs.Bytes.{over}
 use Rattle.board.specs.declared.Board.{Board}
 use Rattle.board.specs.Board.{isBoard}
-use Rattle.record.specs.Write.{Wrote, wrote}
+use Rattle.record.specs.Write.{Wrote, wroteBy}
 use Rattle.lines.specs.declared.LineCells.{LineCells}
 use Rattle.lines.specs.declared.Givens.{Givens}
 
@@ -77,10 +77,7 @@ readRefusal line output = orElse (refusedIf (ltb (length output) givensRoom) (re
 
 -- the givens in the output as opening takes them, bytes beyond them as they were; a refusal leaves every byte
 unfoldable pub readLineOf : List ℕ → List ℕ → Wrote
-readLineOf line output =
-    let r = readRefusal line output in
-    let bytes = tripleBytes (lineGivens line) in
-    pick (isAccepted r) (wrote accepted (length bytes) (over output 0 bytes)) (wrote r 0 output)
+readLineOf line output = wroteBy (readRefusal line output) (tripleBytes (lineGivens line)) output
 
 -- ---- writing
 
@@ -100,11 +97,9 @@ unfoldable pub dottedLine : List ℕ → List ℕ
 dottedLine line = map dotted (take lineBytes line)
 
 -- 2; 34 Output below 81 bytes
-unfoldable pub writeLineNumber : Board → List ℕ → ℕ
-writeLineNumber b output = first ((not (isBoard b) ⇒ 2) ∷ (ltb (length output) lineBytes ⇒ 34) ∷ [])
+unfoldable pub writeLineRefusal : Board → List ℕ → Refusal
+writeLineRefusal b output = orElse (refusedIf (not (isBoard b)) (refusal 2 0 0)) (refusedIf (ltb (length output) lineBytes) (refusal 34 0 0))
 
 -- the line in the output, bytes beyond it as they were; a refusal leaves every byte
 unfoldable pub writeLineOf : Board → List ℕ → Wrote
-writeLineOf b output =
-    let n = writeLineNumber b output in
-    pick (eqb n 0) (wrote accepted lineBytes (over output 0 (lineOf b))) (wrote (refusal n 0 0) 0 output)
+writeLineOf b output = wroteBy (writeLineRefusal b output) (lineOf b) output

@@ -11,6 +11,7 @@ use puzzle::byte_at;
 use puzzle::digit_at;
 use puzzle::text::cell_value;
 use record::Written;
+use record::write::nothing_written;
 use sudoku::CELLS;
 use sudoku::SIDE;
 use sudoku::column_of;
@@ -154,27 +155,17 @@ pub fn givens_of(digits: &[u8; 81]) -> Givens
     }
 }
 
-// A refused call has written nothing.
-fn nothing(refused: Refusal) -> Written
-    ensures { λ r. ⌜ r ≡ record { refusal = refused; length = 0 } ⌝ }
-{
-    Written {
-        refusal: refused,
-        length: 0,
-    }
-}
-
 // Reads a line into givens as opening takes them. Refused by 34 36 37; the room has to do for 81 givens.
 pub fn read_line(line: &[u8], output: &mut [u8]) -> Written
     ensures { λ r. ⌜ (r ≡ readLineOf (now (line .entry)) (now (output .entry)) .answer) × (now (output .exit) ≡ readLineOf (now (line .entry)) (now (output .entry)) .output) ⌝ }
 {
     if output.len() < GIVENS_ROOM {
-        return nothing(refusal(34, 0, 0));
+        return nothing_written(refusal(34, 0, 0));
     }
     let read = line_cells(line);
     let refused = read.refusal;
     if refused.number != 0 {
-        return nothing(refused);
+        return nothing_written(refused);
     }
     Written {
         refusal: accepted(),
@@ -210,10 +201,10 @@ pub fn write_line(board: Board, output: &mut [u8]) -> Written
     ensures { λ r. ⌜ (r ≡ writeLineOf board (now (output .entry)) .answer) × (now (output .exit) ≡ writeLineOf board (now (output .entry)) .output) ⌝ }
 {
     if !is_board(board) {
-        return nothing(refusal(2, 0, 0));
+        return nothing_written(refusal(2, 0, 0));
     }
     if output.len() < LINE_BYTES {
-        return nothing(refusal(34, 0, 0));
+        return nothing_written(refusal(34, 0, 0));
     }
     lay_line(&board.given, &board.digits, output);
     Written {

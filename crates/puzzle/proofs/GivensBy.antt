@@ -13,7 +13,7 @@ use lib.Dec.{ltb, eqb}
 use lib.ListN.{length}
 use Rattle.sudoku.specs.Tests.{pick, both, either, keep, bit, count}
 use Rattle.sudoku.specs.Grid.{rowOf, columnOf}
-use Rattle.sudoku.proofs.Walks.{by-test, keep-length, keep-true, keep-false, left-one, both-true, both-second, both-false-right, either-left, either-right, either-first, either-second, pick-true, pick-false}
+use Rattle.sudoku.proofs.Walks.{by-test, keep-length, keep-true, keep-false, left-one, both-true, both-second, both-false-right, count-le, either-left, either-right, either-first, either-second, pick-true, pick-false}
 use Rattle.sudoku.proofs.Grid.{is-cell, cell-on, cell-on-grid, cell-of-row-column, range-from, range-to, grid-row, grid-column}
 use Rattle.sudoku.proofs.Each.{Each}
 use Rattle.puzzle.specs.declared.Given.{Given}
@@ -191,6 +191,10 @@ pub length-triples : (gs : List Given) → length (tripleBytes gs) ≡ 3 * lengt
 unfolding tripleBytes
 length-triples [] = refl
 length-triples (g ∷ gs) = omega (arith, length-triples gs)
+
+-- 81 cells have at most 81 givens
+pub by-room : (t : ℕ → Bool) (d : ℕ → ℕ) → length (tripleBytes (givensBy t d 81 1)) ≤ 3 * 81
+by-room t d = omega (arith, length-triples (givensBy t d 81 1), by-length t d 81 1, count-le t 81 1)
 
 -- bytes that are whole triples are those of their givens
 pub bytes-back : (bytes : List ℕ) → length bytes % 3 ≡ 0 → tripleBytes (triples bytes) ≡ bytes

@@ -1,4 +1,4 @@
--- Answers to a refused call: number, place, inner number; the last two are 0 where document 01 says nothing of them.
+-- Answers to a refused call: number, place, inner number; the last two are 0 where the documents say nothing of them.
 -- Assumes nothing.
 use Prim.Native.Nat.{ℕ, zero, suc}
 use mathlib.Core.Bool.{Bool}

@@ -23,8 +23,8 @@ pub mod text;
 mod units;
 pub mod vouch;
 
-// The answer of a call: its number in document 01, 0 where the call is
-// accepted; place and inner are 0 where document 01 says nothing of them.
+// The answer of a call: its number in the documents, 0 where the call is
+// accepted; place and inner are 0 where the documents say nothing of them.
 #[repr(C)]
 pub struct Refusal {
     pub number: u8,

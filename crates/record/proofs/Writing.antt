@@ -4,21 +4,21 @@ use Prim.Native.Nat.{ℕ, _≤_, _<_}
 use mathlib.Core.Path.{_≡_, refl, sym, ap, _∙_}
 use mathlib.Core.Bool.{Bool}
 use mathlib.Core.List.{List}
-use borrow.Author.Tests.{eqb-false, ne-eqb, lt-ltb, le-ltb}
+use borrow.Author.Tests.{eqb-false, eq-eqb, ne-eqb, lt-ltb, le-ltb}
 use lib.Dec.{ltb, eqb}
 use lib.ListN.{length}
 use Rattle.sudoku.specs.Tests.{both}
 use Rattle.sudoku.proofs.Walks.{pick-true, pick-false}
 use Rattle.puzzle.specs.declared.Refusal.{Refusal}
 use Rattle.puzzle.specs.Refusals.{refusal, accepted, isAccepted, refusedIf, orElse, firstRefused}
-use Rattle.puzzle.proofs.Accepted.{accepts, if-not}
+use Rattle.puzzle.proofs.Accepted.{if-not}
 use Rattle.puzzle.proofs.Refusals.{refused-if, or-else-by, or-else-passed}
 use Rattle.journal.specs.Limits.{journalBytes, checkMemory}
 use Rattle.journal.specs.Bytes.{over}
 use Rattle.board.specs.declared.Board.{Board}
 use Rattle.play.specs.Play.{journalRefusal}
 use Rattle.record.specs.Items.{recordOf}
-use Rattle.record.specs.Write.{partsOf, unsoundCheck, unwritable, writeRefusal, wrote, writeOf}
+use Rattle.record.specs.Write.{partsOf, unsoundCheck, unwritable, writeRefusal, wrote, wroteBy, writeOf}
 
 -- ---- refusals
 
@@ -35,7 +35,21 @@ module _ (b : Board) (journal checks : List ℕ) (fits : Bool) (same : fits ≡ 
   pub refused-after : r .number ≡ 0 → firstRefused (unsoundCheck (b .given) checks) (b .checks) 1 ≡ unwritable b journal checks
   refused-after n = sym (decided ∙ or-else-passed r _ n)
 
--- ---- what writing answers
+-- ---- what a call that writes bytes answers
+
+module _ (r : Refusal) (bytes output : List ℕ) where
+  pub wrote-nothing : (x : Refusal) → r ≡ x → (x .number ≡ 0 → ⊥) → wrote x 0 output ≡ wroteBy r bytes output
+  unfolding wroteBy isAccepted
+  wrote-nothing x w n =
+      sym
+      (pick-false (isAccepted r) _ _ (ap isAccepted w ∙ ne-eqb (x .number) 0 n)
+      ∙ ap (λ (y : Refusal). wrote y 0 output) w)
+
+  pub wrote-bytes : r .number ≡ 0 → wrote accepted (length bytes) (over output 0 bytes) ≡ wroteBy r bytes output
+  unfolding wroteBy isAccepted
+  wrote-bytes z = sym (pick-true (isAccepted r) _ _ (eq-eqb (r .number) 0 z))
+
+-- ---- what writing a record answers
 
 module _ (b : Board) (journal checks output : List ℕ) (r : Refusal) (e : r ≡ unwritable b journal checks) where
   abbrev bytes : List ℕ
@@ -48,23 +62,18 @@ module _ (b : Board) (journal checks output : List ℕ) (r : Refusal) (e : r ≡
   unfolding writeRefusal
   decides = ap (λ (x : Refusal). orElse x short) (sym e)
 
-  refuses : (x : Refusal) → writeRefusal b journal checks output ≡ x → (x .number ≡ 0 → ⊥) → wrote x 0 output ≡ writeOf b journal checks output
-  unfolding writeOf isAccepted
-  refuses x w n =
-      sym
-      (pick-false (isAccepted (writeRefusal b journal checks output)) _ _ (ap isAccepted w ∙ ne-eqb (x .number) 0 n)
-      ∙ ap (λ (y : Refusal). wrote y 0 output) w)
-
   pub not-written : (r .number ≡ 0 → ⊥) → wrote r 0 output ≡ writeOf b journal checks output
-  not-written n = refuses r (decides ∙ or-else-by r short r refl n) n
+  unfolding writeOf
+  not-written n = wrote-nothing (writeRefusal b journal checks output) bytes output r (decides ∙ or-else-by r short r refl n) n
 
   module _ (z : r .number ≡ 0) (size : ℕ) (is : size ≡ length bytes) where
     by-length : writeRefusal b journal checks output ≡ short
     by-length = decides ∙ or-else-passed r short z
 
     pub too-short : length output < size → wrote (refusal 34 0 0) 0 output ≡ writeOf b journal checks output
+    unfolding writeOf
     too-short h =
-        refuses (refusal 34 0 0)
+        wrote-nothing (writeRefusal b journal checks output) bytes output (refusal 34 0 0)
         (by-length ∙ refused-if _ (refusal 34 0 0) (ap (ltb (length output)) (sym is) ∙ lt-ltb (length output) size h))
         (eqb-false 34 0 refl)
 
@@ -72,6 +81,6 @@ module _ (b : Board) (journal checks output : List ℕ) (r : Refusal) (e : r ≡
     unfolding writeOf
     written h =
         ap (λ (n : ℕ). wrote accepted n (over output 0 bytes)) is
-        ∙ sym
-        (pick-true (isAccepted (writeRefusal b journal checks output)) _ _
-        (accepts _ (by-length ∙ if-not _ (refusal 34 0 0) (ap (ltb (length output)) (sym is) ∙ le-ltb (length output) size h))))
+        ∙ wrote-bytes (writeRefusal b journal checks output) bytes output
+        (ap (λ (x : Refusal). x .number)
+        (by-length ∙ if-not _ (refusal 34 0 0) (ap (ltb (length output)) (sym is) ∙ le-ltb (length output) size h)))

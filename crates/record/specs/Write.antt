@@ -60,7 +60,7 @@ writeRefusal b journal checks output =
     orElse (unwritable b journal checks)
     (refusedIf (ltb (length output) (length (recordOf (partsOf b journal checks)))) (refusal 34 0 0))
 
--- what writing answers, and the output afterwards: on success bytes beyond the record stay, after a refusal every byte
+-- what a call that writes bytes answers, and the output afterwards
 pub record Wrote : Type 0 where
   pub answer : Written
   pub output : List ℕ
@@ -68,8 +68,9 @@ pub record Wrote : Type 0 where
 abbrev pub wrote : Refusal → ℕ → List ℕ → Wrote
 wrote r n output = record { answer = record { refusal = r; length = n }; output = output }
 
+-- refused by r, and every byte of the output stays; else the bytes stand at its front, and those beyond them stay
+unfoldable pub wroteBy : Refusal → List ℕ → List ℕ → Wrote
+wroteBy r bytes output = pick (isAccepted r) (wrote accepted (length bytes) (over output 0 bytes)) (wrote r 0 output)
+
 unfoldable pub writeOf : Board → List ℕ → List ℕ → List ℕ → Wrote
-writeOf b journal checks output =
-    let r = writeRefusal b journal checks output in
-    let bytes = recordOf (partsOf b journal checks) in
-    pick (isAccepted r) (wrote accepted (length bytes) (over output 0 bytes)) (wrote r 0 output)
+writeOf b journal checks output = wroteBy (writeRefusal b journal checks output) (recordOf (partsOf b journal checks)) output

@@ -298,23 +298,27 @@ fn lay_record(board: Board, journal: &[u8], checks: &[u8], output: &mut [u8])
     lay_checks(checks, board.checks, output, asked);
 }
 
+// The answer of a refused call that writes: nothing was written.
+pub fn nothing_written(refused: Refusal) -> Written
+    ensures { λ r. ⌜ r ≡ record { refusal = refused; length = 0 } ⌝ }
+{
+    Written {
+        refusal: refused,
+        length: 0,
+    }
+}
+
 // Writes a board and its memory down as a record. Refused by 1 2 14 34.
 pub fn write(board: Board, journal: &[u8], checks: &[u8], output: &mut [u8]) -> Written
     ensures { λ r. ⌜ (r ≡ writeOf board (now (journal .entry)) (now (checks .entry)) (now (output .entry)) .answer) × (now (output .exit) ≡ writeOf board (now (journal .entry)) (now (checks .entry)) (now (output .entry)) .output) ⌝ }
 {
     let r = unwritable(board, journal, checks);
     if r.number != 0 {
-        return Written {
-            refusal: r,
-            length: 0,
-        };
+        return nothing_written(r);
     }
     let length = record_length(board, journal, checks);
     if output.len() < length {
-        return Written {
-            refusal: refusal(34, 0, 0),
-            length: 0,
-        };
+        return nothing_written(refusal(34, 0, 0));
     }
     lay_record(board, journal, checks, output);
     Written {

@@ -90,6 +90,10 @@ pub in-range : (n : ℕ) → 1 ≤ n → n ≤ 9 → inRange n ≡ true
 unfolding inRange
 in-range n l u = both-true (leb 1 n) (leb n 9) (le-leb 1 n l) (le-leb n 9 u)
 
+pub range-zero : inRange 0 ≡ false
+unfolding inRange both
+range-zero = refl
+
 pub grid-row : (row column : ℕ) → onGrid row column ≡ true → inRange row ≡ true
 unfolding onGrid
 grid-row row column p = both-left (inRange row) (inRange column) p

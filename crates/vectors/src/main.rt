@@ -294,7 +294,10 @@ fn line(block: &[u8], walk: Walk) -> Walk {
     let mut givens = [0u8; GIVENS_ROOM];
     let written = pawdoku_write_line(walk.board, &mut text);
     let read = pawdoku_read_line(&text, &mut givens);
-    let refused = differs(written.refusal.number == 0);
+    let refused = plus(
+        differs(written.refusal.number == 0),
+        differs(read.refusal.number == 0),
+    );
     let wrong = differing(givens_of(block), part(&givens, 0, read.length));
     found(walk, plus(refused, wrong), 0)
 }

@@ -9,7 +9,9 @@ use Rattle.sudoku.specs.Tests.{listed}
 use Rattle.sudoku.proofs.Listed.{length-listed}
 use Rattle.record.proofs.Laying.{Laying, laying-start, laying-room, laying-more, laying-end}
 use Rattle.lines.specs.Lines.{characterAt}
-use Rattle.lines.proofs.Writing.{digit-small, charactersLeft, characters-turn, characters-none, one-laid}
+use Rattle.journal.proofs.Stores.{one-laid}
+use Rattle.board.proofs.Values.{digit-small}
+use Rattle.lines.proofs.Writing.{charactersLeft, characters-turn, characters-none}
 use borrow.Author.Needs.{needs}
 use Rattle.lines.proofs.lay_line.Statement.{statement}
 use Rattle.lines.proofs.lay_line.Tie as tie

@@ -32,20 +32,20 @@ laid line read e z =
 refusal-requires : tie.Need-refusal-requires
 refusal-requires c κs = search needs
 
-nothing-requires : tie.Need-nothing-requires
-nothing-requires c κs = search needs
+nothing-written-requires : tie.Need-nothing-written-requires
+nothing-written-requires c κs = search needs
 
 returns : tie.Need-returns
 returns c =
     let a = c .before .before .before .before .before .args in
     let w = no-room (a .line .now) (a .output .now) (omega (arith, c .before .before .if1 .taken)) in
-    (c .nothing .ensures ∙ ap (λ (x : Refusal). wrote x 0 (a .output .now) .answer) (c .before .refusal .ensures) ∙ ap (λ (x : Wrote). x .answer) w, ap (λ (x : Wrote). x .output) w)
+    (c .nothing-written .ensures ∙ ap (λ (x : Refusal). wrote x 0 (a .output .now) .answer) (c .before .refusal .ensures) ∙ ap (λ (x : Wrote). x .answer) w, ap (λ (x : Wrote). x .output) w)
 
 line-cells-requires : tie.Need-line-cells-requires
 line-cells-requires c κs = search needs
 
-nothing-requires-2 : tie.Need-nothing-requires-2
-nothing-requires-2 c κs = search needs
+nothing-written-requires-2 : tie.Need-nothing-written-requires-2
+nothing-written-requires-2 c κs = search needs
 
 returns-2 : tie.Need-returns-2
 unfolding lineCells
@@ -53,7 +53,7 @@ returns-2 c =
     let a = c .before .before .before .before .before .before .before .before .args in
     let read = c .before .before .before .before .line-cells .result in
     let w = not-read (a .line .now) (a .output .now) (omega (arith, c .before .before .before .before .before .if1 .left)) (read .refusal) (ap (λ (x : LineCells). x .refusal) (c .before .before .before .before .line-cells .ensures)) (c .before .if2 .taken) in
-    (c .nothing2 .ensures ∙ ap (λ (x : Wrote). x .answer) w, ap (λ (x : Wrote). x .output) w)
+    (c .nothing-written2 .ensures ∙ ap (λ (x : Wrote). x .answer) w, ap (λ (x : Wrote). x .output) w)
 
 accepted-requires : tie.Need-accepted-requires
 accepted-requires c κs = search needs
@@ -79,10 +79,10 @@ read-line-spec =
     tie.close
     (tie.spec
     refusal-requires
-    nothing-requires
+    nothing-written-requires
     returns
     line-cells-requires
-    nothing-requires-2
+    nothing-written-requires-2
     returns-2
     accepted-requires
     lay-givens-requires

@@ -12,12 +12,15 @@ use borrow.Author.Needs.{needs}
 unwritable-requires : tie.Need-unwritable-requires
 unwritable-requires c κs = search needs
 
+nothing-written-requires : tie.Need-nothing-written-requires
+nothing-written-requires c κs = search needs
+
 returns : tie.Need-returns
 returns c =
-    let a = c .before .before .before .before .before .before .args in
-    let unwritable = c .before .before .unwritable in
-    let w = not-written (a .board) (a .journal .now) (a .checks .now) (a .output .now) (unwritable .result) (unwritable .ensures .0) (c .if1 .taken) in
-    (ap (λ (x : Wrote). x .answer) w, ap (λ (x : Wrote). x .output) w)
+    let a = c .before .before .before .before .before .before .before .args in
+    let unwritable = c .before .before .before .unwritable in
+    let w = not-written (a .board) (a .journal .now) (a .checks .now) (a .output .now) (unwritable .result) (unwritable .ensures .0) (c .before .if1 .taken) in
+    (c .nothing-written .ensures ∙ ap (λ (x : Wrote). x .answer) w, ap (λ (x : Wrote). x .output) w)
 
 record-length-requires : tie.Need-record-length-requires
 record-length-requires c κs =
@@ -27,13 +30,16 @@ record-length-requires c κs =
 refusal-requires : tie.Need-refusal-requires
 refusal-requires c κs = search needs
 
+nothing-written-requires-2 : tie.Need-nothing-written-requires-2
+nothing-written-requires-2 c κs = search needs
+
 returns-2 : tie.Need-returns-2
 returns-2 c =
-    let a = c .before .before .before .before .before .before .before .before .before .args in
-    let unwritable = c .before .before .before .before .before .unwritable in
-    let record-length = c .before .before .record-length in
-    let w = too-short (a .board) (a .journal .now) (a .checks .now) (a .output .now) (unwritable .result) (unwritable .ensures .0) (c .before .before .before .if1 .left) (record-length .result) (record-length .ensures) (c .before .if2 .taken) in
-    (ap (λ (x : Refusal). wrote x 0 (a .output .now) .answer) (c .refusal .ensures) ∙ ap (λ (x : Wrote). x .answer) w, ap (λ (x : Wrote). x .output) w)
+    let a = c .before .before .before .before .before .before .before .before .before .before .args in
+    let unwritable = c .before .before .before .before .before .before .unwritable in
+    let record-length = c .before .before .before .record-length in
+    let w = too-short (a .board) (a .journal .now) (a .checks .now) (a .output .now) (unwritable .result) (unwritable .ensures .0) (c .before .before .before .before .if1 .left) (record-length .result) (record-length .ensures) (c .before .before .if2 .taken) in
+    (c .nothing-written2 .ensures ∙ ap (λ (x : Refusal). wrote x 0 (a .output .now) .answer) (c .before .refusal .ensures) ∙ ap (λ (x : Wrote). x .answer) w, ap (λ (x : Wrote). x .output) w)
 
 lay-record-requires : tie.Need-lay-record-requires
 lay-record-requires c κs =
@@ -59,9 +65,11 @@ write-spec =
     tie.close
     (tie.spec
     unwritable-requires
+    nothing-written-requires
     returns
     record-length-requires
     refusal-requires
+    nothing-written-requires-2
     returns-2
     lay-record-requires
     accepted-requires
