@@ -6,7 +6,7 @@ use mathlib.Core.Bool.{true, false}
 use mathlib.Core.List.{List}
 use borrow.Author.Tests.{eq-eqb, ne-eqb, le-leb, lt-leb}
 use lib.Dec.{leb, eqb}
-use Rattle.sudoku.specs.Tests.{either}
+use Rattle.sudoku.specs.Tests.{pick, either}
 use Rattle.sudoku.proofs.Walks.{pick-true, pick-false, both-true, both-false-left, both-false-right}
 use Rattle.journal.specs.declared.Move.the-variants.{Place, Erase, WriteMark, StrikeMark}
 use Rattle.board.specs.declared.Board.{Board}
@@ -124,20 +124,13 @@ module _ (line : List ℕ) (c : Command) (file answers : Content) (s : Session) 
   too-many h = sym (pick-false _ _ _ (both-false-right (leb 1 (c .words)) (leb (c .words) 2) (lt-leb (c .words) 2 h)))
 
   module _ (some : 1 ≤ c .words) (few : c .words ≤ 2) (named : List ℕ) (name : named ≡ partOf line (c .second .start) (c .second .end)) (l : Loaded) (j k : List ℕ) (is : left l j k ≡ loadOf named file answers (s .board .solution) (s .journal) (s .checks)) where
-    loads : takenUp (s .board) (left l j k) ≡ openLeaves line c file answers s
-    unfolding openLeaves
-    loads =
-        ap (takenUp (s .board)) is
+    pub loads : (r : Board) → r ≡ pick (l .good) (l .board) (s .board) → session r j k ≡ openLeaves line c file answers s
+    unfolding openLeaves takenUp
+    loads r e =
+        ap (λ (b : Board). session b j k) e
+        ∙ ap (takenUp (s .board)) is
         ∙ ap (λ (x : List ℕ). takenUp (s .board) (loadOf x file answers (s .board .solution) (s .journal) (s .checks))) name
         ∙ sym (pick-true _ _ _ (both-true (leb 1 (c .words)) (leb (c .words) 2) (le-leb 1 (c .words) some) (le-leb (c .words) 2 few)))
-
-    pub opens-nothing : l .good ≡ false → session (s .board) j k ≡ openLeaves line c file answers s
-    unfolding takenUp
-    opens-nothing e = ap (λ (b : Board). session b j k) (sym (pick-false _ (l .board) (s .board) e)) ∙ loads
-
-    pub opens-anew : l .good ≡ true → session (l .board) j k ≡ openLeaves line c file answers s
-    unfolding takenUp
-    opens-anew e = ap (λ (b : Board). session b j k) (sym (pick-true _ (l .board) (s .board) e)) ∙ loads
 
 -- ---- puzzle, by its words and by what was loaded
 
@@ -147,20 +140,13 @@ module _ (line : List ℕ) (c : Command) (s : Session) where
   not-two n = sym (pick-false _ _ _ (ne-eqb (c .words) 2 n))
 
   module _ (two : c .words ≡ 2) (mailed answers : List ℕ) (first : mailed ≡ partOf line (c .first .start) (c .first .end)) (second : answers ≡ partOf line (c .second .start) (c .second .end)) (l : Loaded) (j k : List ℕ) (is : left l j k ≡ loadLine mailed answers (s .journal) (s .checks)) where
-    loads-line : takenUp (s .board) (left l j k) ≡ puzzleLeaves line c s
-    unfolding puzzleLeaves
-    loads-line =
-        ap (takenUp (s .board)) is
+    pub loads-line : (r : Board) → r ≡ pick (l .good) (l .board) (s .board) → session r j k ≡ puzzleLeaves line c s
+    unfolding puzzleLeaves takenUp
+    loads-line r e =
+        ap (λ (b : Board). session b j k) e
+        ∙ ap (takenUp (s .board)) is
         ∙ (λ i. takenUp (s .board) (loadLine (first i) (second i) (s .journal) (s .checks)))
         ∙ sym (pick-true _ _ _ (eq-eqb (c .words) 2 two))
-
-    pub poses-nothing : l .good ≡ false → session (s .board) j k ≡ puzzleLeaves line c s
-    unfolding takenUp
-    poses-nothing e = ap (λ (b : Board). session b j k) (sym (pick-false _ (l .board) (s .board) e)) ∙ loads-line
-
-    pub poses-anew : l .good ≡ true → session (l .board) j k ≡ puzzleLeaves line c s
-    unfolding takenUp
-    poses-anew e = ap (λ (b : Board). session b j k) (sym (pick-true _ (l .board) (s .board) e)) ∙ loads-line
 
 -- ---- a command, by its letter
 

@@ -2,6 +2,7 @@
 use crate::Numbers;
 use board::Answer;
 use board::Board;
+use files::Loaded;
 use files::disk::save;
 use files::load::load;
 use files::load::load_line;
@@ -41,6 +42,7 @@ use undo::undo;
 ghost use mathlib.Core.Path.{_≡_};
 ghost use mathlib.Core.List.{List};
 ghost use Prim.Native.Nat.{ℕ};
+ghost use Rattle.sudoku.specs.Tests.{pick};
 ghost use Rattle.play.specs.Play.{playOf};
 ghost use Rattle.calls.specs.Encoded.{runOne, session};
 ghost use Rattle.commands.specs.Perform.{narrowed, thirdOf, areNumbers, numbersOf, wantedBy, moveNamed, moveCall, undoCall, checkCall, Opens, puzzleLeaves, Performs};
@@ -353,6 +355,18 @@ fn save_command(
     keep(part(line, name.start, name.end), &out, written.length);
 }
 
+// The board that was opened, drawn; where none was, the one that is played.
+fn taken_up(loaded: Loaded, board: Board, coloured: bool) -> Board
+    ensures { λ r. ⌜ r ≡ pick (loaded .good) (loaded .board) board ⌝ }
+{
+    if !loaded.good {
+        return board;
+    }
+    let opened = loaded.board;
+    whole(opened, coloured);
+    opened
+}
+
 fn open_command(
     line: &[u8],
     command: Command,
@@ -376,12 +390,7 @@ fn open_command(
     let path = part(line, first.start, first.end);
     let solution = part(line, second.start, second.end);
     let loaded = load(path, solution, &board.solution, journal, checks);
-    if !loaded.good {
-        return board;
-    }
-    let opened = loaded.board;
-    whole(opened, coloured);
-    opened
+    taken_up(loaded, board, coloured)
 }
 
 // A mailed line and the line of its solution, as two words.
@@ -404,12 +413,7 @@ fn puzzle_command(
     let mailed = part(line, first.start, first.end);
     let solution = part(line, second.start, second.end);
     let loaded = load_line(mailed, solution, journal, checks);
-    if !loaded.good {
-        return board;
-    }
-    let opened = loaded.board;
-    whole(opened, coloured);
-    opened
+    taken_up(loaded, board, coloured)
 }
 
 // Whether a letter is that of a command that has no words after it.

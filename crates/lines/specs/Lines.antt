@@ -46,10 +46,11 @@ otherSort line n = refusedIf (ltb 9 (valueAt line n)) (refusal 37 n 0)
 unfoldable pub lineRefusal : List ℕ → Refusal
 lineRefusal line = orElse (refusedIf (not (isLine line)) (refusal 36 0 0)) (firstRefused (otherSort line) 81 1)
 
--- the cells of a line; zeros beside a refusal
+-- what all 81 say
 unfoldable pub valuesOf : List ℕ → List ℕ
 valuesOf line = listed (valueAt line) 81 1
 
+-- the cells of a line; zeros beside a refusal
 unfoldable pub lineCells : List ℕ → LineCells
 lineCells line =
     let r = lineRefusal line in

@@ -31,7 +31,7 @@ ghost use Rattle.lines.specs.Code.Triples.{givenBytes};
 // Bytes of a line that is written.
 pub const LINE_BYTES: usize = CELLS;
 // Bytes of a given as opening takes it, and the room for a line's givens, however few they are.
-const GIVEN_BYTES: usize = 3;
+pub const GIVEN_BYTES: usize = 3;
 
 pub const GIVENS_ROOM: usize = GIVEN_BYTES * CELLS;
 

@@ -6,6 +6,7 @@ use crate::say;
 use crate::shown;
 use puzzle::Refusal;
 use puzzle::byte_at;
+use puzzle::index_of;
 use sudoku::column_of;
 use sudoku::row_of;
 use sudoku::wide;
@@ -203,9 +204,7 @@ fn what_came(r: Refusal, line: &[u8]) {
         counted(line.len(), b" byte came", b" bytes came");
         return;
     }
-    if r.place > 0 {
-        found(byte_at(line, r.place - 1));
-    }
+    found(byte_at(line, index_of(r.place)));
 }
 
 // A refusal of a puzzle's line on a line of its own, with what came instead.

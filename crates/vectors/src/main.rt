@@ -11,6 +11,7 @@ use journal::MAX_MOVES;
 use journal::SLOT_BYTES;
 use libc::STDIN_FILENO;
 use libc::STDOUT_FILENO;
+use lines::GIVEN_BYTES;
 use lines::GIVENS_ROOM;
 use lines::LINE_BYTES;
 use pawdoku::asked::pawdoku_can_redo;
@@ -44,9 +45,7 @@ ghost use Prim.Native.Nat.{_<_, _≤_};
 const LARGE: usize = 1000000;
 // Room for the answers to the calls of a session: no stored one has as many.
 const ANSWERS: usize = 16384;
-// Bytes of a given, of a stored refusal, and of a number.
-const GIVEN: usize = 3;
-
+// Bytes of a stored refusal, and of a number.
 const REFUSAL: usize = 4;
 
 const NUMBER: usize = 2;
@@ -173,7 +172,7 @@ fn givens_of<'a>(block: &'a [u8]) -> &'a [u8] {
     part(
         block,
         BEHIND_SOLUTION + 1,
-        GIVEN * wide(byte_at(block, BEHIND_SOLUTION)),
+        GIVEN_BYTES * wide(byte_at(block, BEHIND_SOLUTION)),
     )
 }
 

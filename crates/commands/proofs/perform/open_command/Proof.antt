@@ -1,9 +1,8 @@
 -- `commands::perform::open_command` meets its contract.
 -- Assumes nothing.
-use borrow.Author.Tests.{not-true, not-false}
 use Rattle.calls.specs.Encoded.{session}
 use Rattle.files.specs.Disk.{unread}
-use Rattle.commands.proofs.Performing.{too-few, too-many, opens-nothing, opens-anew}
+use Rattle.commands.proofs.Performing.{too-few, too-many, loads}
 use borrow.Author.Needs.{needs}
 use Rattle.commands.proofs.perform.open_command.Statement.{statement}
 use Rattle.commands.proofs.perform.open_command.Tie as tie
@@ -41,27 +40,17 @@ part-requires-2 c κs = search needs
 load-requires : tie.Need-load-requires
 load-requires c κs = search needs
 
+taken-up-requires : tie.Need-taken-up-requires
+taken-up-requires c κs = search needs
+
 returns-3 : tie.Need-returns-3
 returns-3 c =
-    let a = c .before .before .before .before .before .before .before .before .before .before .before .before .before .before .before .before .args in
-    let loaded = c .before .before .load .ensures in
+    let a = c .before .before .before .before .before .before .before .before .before .before .before .before .before .before .before .args in
+    let loaded = c .before .load .ensures in
     record {
       file = loaded .file;
       answers = loaded .answers;
-      leaves = opens-nothing (a .line .now) (a .command) (loaded .file) (loaded .answers) (session (a .t3) (a .journal .now) (a .checks .now)) (c .before .before .before .before .before .before .before .before .before .before .before .before .before .if1 .left) (c .before .before .before .before .before .before .before .before .before .before .before .if2 .left) _ (c .before .before .before .before .before .before .before .part2 .ensures) _ _ _ (loaded .is) (not-true _ (c .if3 .taken));
-    }
-
-whole-requires : tie.Need-whole-requires
-whole-requires c κs = search needs
-
-returns-4 : tie.Need-returns-4
-returns-4 c =
-    let a = c .before .before .before .before .before .before .before .before .before .before .before .before .before .before .before .before .before .before .args in
-    let loaded = c .before .before .before .before .load .ensures in
-    record {
-      file = loaded .file;
-      answers = loaded .answers;
-      leaves = opens-anew (a .line .now) (a .command) (loaded .file) (loaded .answers) (session (a .t3) (a .journal .now) (a .checks .now)) (c .before .before .before .before .before .before .before .before .before .before .before .before .before .before .before .if1 .left) (c .before .before .before .before .before .before .before .before .before .before .before .before .before .if2 .left) _ (c .before .before .before .before .before .before .before .before .before .part2 .ensures) _ _ _ (loaded .is) (not-false _ (c .before .before .if3 .left));
+      leaves = loads (a .line .now) (a .command) (loaded .file) (loaded .answers) (session (a .t3) (a .journal .now) (a .checks .now)) (c .before .before .before .before .before .before .before .before .before .before .before .before .if1 .left) (c .before .before .before .before .before .before .before .before .before .before .if2 .left) _ (c .before .before .before .before .before .before .part2 .ensures) _ _ _ (loaded .is) (c .taken-up .result) (c .taken-up .ensures);
     }
 
 pub open-command-spec : {M : Type 1} → statement M
@@ -75,6 +64,5 @@ open-command-spec =
     part-requires
     part-requires-2
     load-requires
-    returns-3
-    whole-requires
-    returns-4)
+    taken-up-requires
+    returns-3)

@@ -1,8 +1,7 @@
 -- `commands::perform::puzzle_command` meets its contract.
 -- Assumes nothing.
-use borrow.Author.Tests.{not-true, not-false}
 use Rattle.calls.specs.Encoded.{session}
-use Rattle.commands.proofs.Performing.{not-two, poses-nothing, poses-anew}
+use Rattle.commands.proofs.Performing.{not-two, loads-line}
 use borrow.Author.Needs.{needs}
 use Rattle.commands.proofs.perform.puzzle_command.Statement.{statement}
 use Rattle.commands.proofs.perform.puzzle_command.Tie as tie
@@ -24,28 +23,15 @@ part-requires-2 c κs = search needs
 load-line-requires : tie.Need-load-line-requires
 load-line-requires c κs = search needs
 
+taken-up-requires : tie.Need-taken-up-requires
+taken-up-requires c κs = search needs
+
 returns-2 : tie.Need-returns-2
 returns-2 c =
-    let a = c .before .before .before .before .before .before .before .before .before .before .before .before .args in
-    poses-nothing (a .line .now) (a .command) (session (a .board) (a .journal .now) (a .checks .now)) (c .before .before .before .before .before .before .before .before .before .if1 .left) _ _ (c .before .before .before .before .before .before .part .ensures) (c .before .before .before .before .before .part2 .ensures) _ _ _ (c .before .before .load-line .ensures) (not-true _ (c .if2 .taken))
-
-whole-requires : tie.Need-whole-requires
-whole-requires c κs = search needs
-
-returns-3 : tie.Need-returns-3
-returns-3 c =
-    let a = c .before .before .before .before .before .before .before .before .before .before .before .before .before .before .args in
-    poses-anew (a .line .now) (a .command) (session (a .board) (a .journal .now) (a .checks .now)) (c .before .before .before .before .before .before .before .before .before .before .before .if1 .left) _ _ (c .before .before .before .before .before .before .before .before .part .ensures) (c .before .before .before .before .before .before .before .part2 .ensures) _ _ _ (c .before .before .before .before .load-line .ensures) (not-false _ (c .before .before .if2 .left))
+    let a = c .before .before .before .before .before .before .before .before .before .before .before .args in
+    loads-line (a .line .now) (a .command) (session (a .board) (a .journal .now) (a .checks .now)) (c .before .before .before .before .before .before .before .before .if1 .left) _ _ (c .before .before .before .before .before .part .ensures) (c .before .before .before .before .part2 .ensures) _ _ _ (c .before .load-line .ensures) (c .taken-up .result) (c .taken-up .ensures)
 
 pub puzzle-command-spec : {M : Type 1} → statement M
 puzzle-command-spec =
     tie.close
-    (tie.spec
-    wanted-requires
-    returns
-    part-requires
-    part-requires-2
-    load-line-requires
-    returns-2
-    whole-requires
-    returns-3)
+    (tie.spec wanted-requires returns part-requires part-requires-2 load-line-requires taken-up-requires returns-2)
