@@ -1,5 +1,7 @@
 // The board (of the original's board.rs the value and `open`; of board/cell.rs what
 // a cell answers): one puzzle as it is being played, its test, and its opening.
+#![tactic(auto)]
+
 use puzzle::Refusal;
 
 pub mod cell;
@@ -9,7 +11,7 @@ pub mod value;
 // A board by value, with flat arrays of 81 and open fields. It goes into a call and comes back in its answer.
 // Its flags are bytes, so that a host passes it as it is: number 2 speaks of flags other than 0 and 1.
 #[repr(C)]
-#[derive(Drop)]
+#[derive(Clone, Copy)]
 pub struct Board {
     // 0 means none
     pub digits: [u8; 81],
@@ -26,7 +28,7 @@ pub struct Board {
 
 // What a call that changes the board answers.
 #[repr(C)]
-#[derive(Drop)]
+#[derive(Clone, Copy)]
 pub struct Answer {
     pub refusal: Refusal,
     pub board: Board,
@@ -34,7 +36,7 @@ pub struct Answer {
 
 // What a check answers: whether the digit is the solution's; false beside a refusal.
 #[repr(C)]
-#[derive(Drop)]
+#[derive(Clone, Copy)]
 pub struct Checked {
     pub refusal: Refusal,
     pub right: bool,

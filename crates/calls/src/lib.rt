@@ -1,4 +1,6 @@
 // Play calls, and lists of them as bytes.
+#![tactic(auto)]
+
 use journal::Move;
 
 pub mod encoded;
@@ -23,7 +25,7 @@ pub const CALL_REDO: u8 = 8;
 pub const NO_CALL: u8 = 255;
 
 // A play call.
-#[derive(Drop)]
+#[derive(Clone, Copy)]
 pub enum Call {
     Make(Move),
     Undo,
@@ -32,7 +34,7 @@ pub enum Call {
 }
 
 // What four bytes encode.
-#[derive(Drop)]
+#[derive(Clone, Copy)]
 pub enum Decoded {
     Of(Call),
     Nothing,

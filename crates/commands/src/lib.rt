@@ -1,8 +1,10 @@
 // The commands of the console: each is one call of the library, and what it answers is shown.
+#![tactic(auto)]
+
 pub mod perform;
 
 // The numbers after a command.
-#[derive(Drop)]
+#[derive(Clone, Copy)]
 pub struct Numbers {
     pub good: bool,
     pub row: u8,

@@ -1,4 +1,6 @@
 // Plays a board in a terminal.
+#![tactic(auto)]
+
 fn main() {
     terminal::run();
 }

@@ -1,20 +1,22 @@
 // Files of the console and the referee: read whole, opened as puzzles and records, and a file that takes another's
 // place only once it is written. No contract can say what a file holds; each function says on standard output what went
 // wrong.
+#![tactic(auto)]
+
 use board::Board;
 
 pub mod disk;
 pub mod load;
 
 // Whether a file was read, and how many bytes of it.
-#[derive(Drop)]
+#[derive(Clone, Copy)]
 pub struct Got {
     pub good: bool,
     pub length: usize,
 }
 
 // A board that was opened, or none.
-#[derive(Drop)]
+#[derive(Clone, Copy)]
 pub struct Loaded {
     pub good: bool,
     pub board: Board,

@@ -1,5 +1,7 @@
 // The journal (board/journal.rs of the original): the four moves,
 // what each one displaces, slots of eight bytes, and the two counts.
+#![tactic(auto)]
+
 
 pub mod checks;
 pub mod notes;
@@ -36,7 +38,7 @@ pub const JOURNAL_BYTES: usize = SLOT_BYTES * MAX_MOVES;
 pub const CHECK_MEMORY: usize = CHECK_BYTES * MAX_CHECKS;
 
 // The four moves.
-#[derive(Drop)]
+#[derive(Clone, Copy)]
 pub enum Move {
     Place { row: u8, column: u8, digit: u8 },
     Erase { row: u8, column: u8 },
@@ -46,7 +48,7 @@ pub enum Move {
 
 // A slot, read: the move's four bytes, the digit before, and the mask
 // of the peers that lost the mark, bit i for peer i of the target.
-#[derive(Drop)]
+#[derive(Clone, Copy)]
 pub struct Slot {
     pub kind: u8,
     pub row: u8,
@@ -57,7 +59,7 @@ pub struct Slot {
 }
 
 // A check as it is asked: how many moves stand, the cell, and the digit that is asked about.
-#[derive(Drop)]
+#[derive(Clone, Copy)]
 pub struct Asked {
     pub standing: usize,
     pub row: u8,
@@ -67,14 +69,14 @@ pub struct Asked {
 
 // What a move does to the digit of its cell: the digit that stood before
 // and the one that stands after, 0 for an empty cell. A mark changes none.
-#[derive(Drop)]
+#[derive(Clone, Copy)]
 pub enum DigitChange {
     Put { before: u8, after: u8 },
     None,
 }
 
 // The journal's two counts.
-#[derive(Drop)]
+#[derive(Clone, Copy)]
 pub struct Counts {
     pub made: usize,
     pub standing: usize,

@@ -1,6 +1,8 @@
 // Puzzle lines, as setters mail them: 81 characters, row by row, 1 to 9 for a given, a full stop or 0 for a blank,
 // and at most one line feed behind them. A line is read into givens as opening takes them, and a board's givens are
 // written as a line. Neither is in the original.
+#![tactic(auto)]
+
 ghost use Rattle.std.specs.Prelude.{◌≡◌, true, ◌+◌, ◌≤◌, length};
 ghost use Rattle.sudoku.specs.Tests.{every, listed};
 ghost use Rattle.sudoku.specs.Grid.{at as entry_at};
@@ -28,14 +30,14 @@ pub const GIVEN_BYTES: usize = 3;
 pub const GIVENS_ROOM: usize = GIVEN_BYTES * CELLS;
 
 // The cells of a line: a digit, or 0 for a blank. Zeros beside a refusal.
-#[derive(Drop)]
+#[derive(Clone, Copy)]
 pub struct LineCells {
     pub refusal: Refusal,
     pub cells: [u8; 81],
 }
 
 // Givens as opening takes them: three bytes each, so many bytes in all.
-#[derive(Drop)]
+#[derive(Clone, Copy)]
 pub struct Givens {
     pub bytes: [u8; GIVENS_ROOM],
     pub length: usize,

@@ -1,5 +1,7 @@
 // Notes: the marks of one cell, in a `u16`. Mark d is the bit of value 2 to the power d, d from 1 to 9.
 // Every function takes any note and any byte for a digit: what is no digit is no mark of any note.
+#![tactic(auto)]
+
 ghost use Rattle.std.specs.Prelude.{◌≡◌};
 ghost use Rattle.note.specs.Note.{contains as contains_of, with_mark, without as without_mark, len_of, is_empty, digits_of, is_note, power_of};
 

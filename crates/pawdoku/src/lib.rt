@@ -1,5 +1,7 @@
 // The library for hosts in C, Rust and whatever links like C: every call of the board, exported under the names of
 // include/pawdoku.h. A board goes in and comes back by value; lent memory is a pointer and a length.
+#![tactic(auto)]
+
 use puzzle::Refusal;
 use sudoku::{LINE, PEERS_PER_CELL};
 
@@ -15,7 +17,7 @@ pub mod version;
 // A move that is shown: where its slot stands in the journal, and how many of its bytes were copied.
 // Zeros beside a refusal.
 #[repr(C)]
-#[derive(Drop)]
+#[derive(Clone, Copy)]
 pub struct Shown {
     pub refusal: Refusal,
     pub offset: usize,
@@ -24,14 +26,14 @@ pub struct Shown {
 
 // The digits of a note's marks, ascending, zeros behind them. C returns no bare array.
 #[repr(C)]
-#[derive(Drop)]
+#[derive(Clone, Copy)]
 pub struct Digits {
     pub digits: [u8; LINE],
 }
 
 // The peers of a cell, ascending.
 #[repr(C)]
-#[derive(Drop)]
+#[derive(Clone, Copy)]
 pub struct PeerCells {
     pub cells: [u8; PEERS_PER_CELL],
 }

@@ -2,6 +2,8 @@
 // mark calls, check, and the latest and next move. Undo and redo stand in crate undo.
 // A call gets the board by value and hands it back in its answer; a
 // refused call hands it back as it came, and touches no lent byte.
+#![tactic(auto)]
+
 
 pub mod checks;
 pub mod moves;

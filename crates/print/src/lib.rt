@@ -1,5 +1,7 @@
 // What the console and the referee write to standard output. No contract can say what a descriptor gets, so all of
 // this is thin: the drawing is made in crate screen, every answer in the library.
+#![tactic(auto)]
+
 use libc::STDOUT_FILENO;
 
 pub mod deeds;

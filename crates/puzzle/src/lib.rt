@@ -1,5 +1,7 @@
 // The puzzle (sudoku/proof.rs and sudoku/puzzle.rs of the original):
 // what a setter may pose, conflicts, and when a puzzle is solved.
+#![tactic(auto)]
+
 ghost use Rattle.std.specs.Prelude.{◌≡◌, ◌≤◌, ◌-◌, eqb, get_or};
 ghost use Rattle.sudoku.specs.Tests.{count};
 ghost use Rattle.sudoku.specs.Grid.{at};
@@ -18,7 +20,7 @@ pub mod vouch;
 // The answer of a call: its number in the documents, 0 where the call is
 // accepted; place and inner are 0 where the documents say nothing of them.
 #[repr(C)]
-#[derive(Drop)]
+#[derive(Clone, Copy)]
 pub struct Refusal {
     pub number: u8,
     pub place: usize,
@@ -27,7 +29,7 @@ pub struct Refusal {
 
 // A given: a position and the digit that the setter put there.
 #[repr(C)]
-#[derive(Drop)]
+#[derive(Clone, Copy)]
 pub struct Given {
     pub row: u8,
     pub column: u8,
@@ -36,7 +38,7 @@ pub struct Given {
 
 // How givens stand in some bytes: three bytes each, one after the other, as
 // opening gets them, or as the items of a record, each after its kind byte.
-#[derive(Drop)]
+#[derive(Clone, Copy)]
 pub enum Layout {
     Triples,
     Items,

@@ -1,6 +1,8 @@
 // The questions (board/cell.rs and parts of board.rs of the original): what a board
 // shows. Each tests the board value (number 2) itself; one for a cell tests its
 // position (3), the keypad's its key (8). Beside a refusal stand zeros and false.
+#![tactic(auto)]
+
 ghost use Rattle.std.specs.Prelude.{◌≡◌, not};
 ghost use Rattle.puzzle.specs.Givens.{is_on};
 ghost use Rattle.sudoku.specs.Tests.{both};
@@ -17,7 +19,7 @@ use sudoku::{cell_of, in_range, on_grid};
 
 // What the question for one cell answers; zeros beside a refusal.
 #[repr(C)]
-#[derive(Drop)]
+#[derive(Clone, Copy)]
 pub struct CellAnswer {
     pub refusal: Refusal,
     pub digit: u8,
@@ -30,7 +32,7 @@ pub struct CellAnswer {
 
 // What a question answered by yes or no answers; false beside a refusal.
 #[repr(C)]
-#[derive(Drop)]
+#[derive(Clone, Copy)]
 pub struct YesNo {
     pub refusal: Refusal,
     pub holds: bool,
@@ -38,7 +40,7 @@ pub struct YesNo {
 
 // What the keypad answers: digits left for a key; 0 beside a refusal.
 #[repr(C)]
-#[derive(Drop)]
+#[derive(Clone, Copy)]
 pub struct Left {
     pub refusal: Refusal,
     pub left: u8,

@@ -1,5 +1,7 @@
 // Reading back (board/reading.rs and board/moves.rs of the original): a move as the board
 // hands it out, and the board as it stood once that move and no later one had been made.
+#![tactic(auto)]
+
 use puzzle::Refusal;
 
 pub mod read;
@@ -7,7 +9,7 @@ pub mod replay;
 
 // The reading of one move; zeros beside a refusal.
 #[repr(C)]
-#[derive(Drop)]
+#[derive(Clone, Copy)]
 pub struct Reading {
     pub refusal: Refusal,
     // 2 place, 3 erase, 4 write mark, 5 strike mark

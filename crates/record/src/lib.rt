@@ -1,5 +1,7 @@
 // The record (board/record.rs of the original): a board written down whole as bytes, and these bytes
 // scanned and read back into items. Reopening them is defined here (specs/Reopen) and done in crate reopen.
+#![tactic(auto)]
+
 use journal::{MAX_CHECKS, MAX_MOVES, Move};
 use puzzle::Refusal;
 use sudoku::CELLS;
@@ -26,7 +28,7 @@ pub const RECORD_BYTES: usize = GIVEN_ITEM * (CELLS - 1)
     + CHECK_ITEM * MAX_CHECKS;
 
 // An item of the record.
-#[derive(Drop)]
+#[derive(Clone, Copy)]
 pub enum Item {
     Given {
         row: u8,
@@ -45,14 +47,14 @@ pub enum Item {
 
 // What writing answers: the record's length in bytes; 0 beside a refusal.
 #[repr(C)]
-#[derive(Drop)]
+#[derive(Clone, Copy)]
 pub struct Written {
     pub refusal: Refusal,
     pub length: usize,
 }
 
 // The groups of a record's items, in their order; Count is the undone count. No item has the last one's kind.
-#[derive(Drop)]
+#[derive(Clone, Copy)]
 pub enum Group {
     Givens,
     Moves,
@@ -62,14 +64,14 @@ pub enum Group {
 }
 
 // What a kind byte decides: the item's group, and how many bytes of body follow.
-#[derive(Drop)]
+#[derive(Clone, Copy)]
 pub struct Shape {
     pub group: Group,
     pub body: usize,
 }
 
 // What stands at an offset: a whole item, and where the next one starts.
-#[derive(Drop)]
+#[derive(Clone, Copy)]
 pub enum Read {
     Whole { item: Item, next: usize },
     Nothing,
@@ -77,7 +79,7 @@ pub enum Read {
 
 // How far a scan has come: phase 0 among the givens, 1 among the moves, 2 after the
 // undone count; the next item's number and where it starts; what was counted so far.
-#[derive(Drop)]
+#[derive(Clone, Copy)]
 pub struct Progress {
     pub phase: u8,
     pub item: usize,
@@ -91,14 +93,14 @@ pub struct Progress {
 }
 
 // One item of a scan: it stands where it may, or the record is malformed there.
-#[derive(Drop)]
+#[derive(Clone, Copy)]
 pub enum Step {
     Next(Progress),
     Stopped,
 }
 
 // What a scan of a whole record answers: 17, or the counts; zeros beside a refusal.
-#[derive(Drop)]
+#[derive(Clone, Copy)]
 pub struct Scanned {
     pub refusal: Refusal,
     pub givens: usize,

@@ -1,4 +1,6 @@
 // The referee, run for the reading of one move.
+#![tactic(auto)]
+
 fn main() {
     report::run();
 }

@@ -1,4 +1,6 @@
 // The referee, run on a record that does not reopen.
+#![tactic(auto)]
+
 fn main() {
     report::run();
 }

@@ -1,5 +1,7 @@
 // Reopening a record: the givens opened, all moves performed (28,
 // 29), the undone ones taken back (30), then the checks (31 to 33).
+#![tactic(auto)]
+
 ghost use Rattle.std.specs.Prelude.{◌≡◌, not, map, ◌+◌, ◌-◌, ◌*◌, ◌≤◌, ◌<◌, eqb, length};
 ghost use Rattle.puzzle.specs.Givens.{is_on};
 ghost use Rattle.sudoku.specs.Tests.{both};

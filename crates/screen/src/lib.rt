@@ -1,12 +1,14 @@
 // What the console and the referee show: the drawn board with its colours, and the keypad. Each character is a
 // function of the board, and its contract says which.
+#![tactic(auto)]
+
 
 pub mod keys;
 pub mod picture;
 
 // What a place of the drawn board shows: a character of the frame or of its labels, or one of the nine spots of a
 // cell, counted as the marks are; spot 0 is the blank beside them.
-#[derive(Drop)]
+#[derive(Clone, Copy)]
 pub enum Spot {
     Frame(u8),
     Inside { cell: usize, spot: u8 },

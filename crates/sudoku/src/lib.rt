@@ -1,4 +1,6 @@
 // The grid (sudoku.rs): positions, cells, bands and stacks, and the peers of a cell.
+#![tactic(auto)]
+
 ghost use Rattle.std.specs.Prelude.{◌≡◌, ◌≤◌, ◌<◌, ◌+◌, length, take, drop};
 ghost use Rattle.sudoku.specs.Grid.{in_range, on_grid, cell_of, row_of, column_of, box_index, is_peer_of, peers_of};
 

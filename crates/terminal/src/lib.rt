@@ -1,6 +1,8 @@
 // The console: a board played in a terminal, line by line. Thin: every answer is the library's, and the drawn board and
 // the keypad's line are made in crate screen. The words around them and those of a refusal stand in crate print, what a
 // command says of itself in crate commands, what is said of a file in crate files, and the console's own words here.
+#![tactic(auto)]
+
 use board::Board;
 
 mod input;
@@ -10,7 +12,7 @@ pub use start::run;
 
 // What goes from one line to the next: the board, what of the input is read and not used, and how the console was
 // started.
-#[derive(Drop)]
+#[derive(Clone, Copy)]
 pub struct Table {
     pub board: Board,
     pub at: usize,
@@ -22,7 +24,7 @@ pub struct Table {
 
 // A line that was read: how long it is, more than a line may have where it was cut, and whether the input ended
 // instead.
-#[derive(Drop)]
+#[derive(Clone, Copy)]
 pub struct Line {
     pub at: usize,
     pub end: usize,
@@ -31,7 +33,7 @@ pub struct Line {
 }
 
 // A byte of the input.
-#[derive(Drop)]
+#[derive(Clone, Copy)]
 pub struct Byte {
     pub at: usize,
     pub end: usize,
@@ -41,7 +43,7 @@ pub struct Byte {
 
 // What the console was started with: the lengths of the two names, how to colour (0 where the output is a terminal, 1
 // always, 2 never), and whether something was wrong.
-#[derive(Drop)]
+#[derive(Clone, Copy)]
 pub struct Args {
     pub first: usize,
     pub second: usize,

@@ -1,5 +1,7 @@
 // Texts that the console and the referee read: the cells of a puzzle or a solution, and the commands of a player. All
 // of it is functions of bytes, with their contracts.
+#![tactic(auto)]
+
 ghost use Rattle.std.specs.Prelude.{◌≡◌};
 ghost use Rattle.texts.specs.Parts.{part_of};
 
@@ -8,7 +10,7 @@ pub mod grids;
 
 // The cells of a text: how many there are (82 where there are more than 81), the first 81 of them, and the first
 // character that is neither a cell nor white space, counted from 1; 0 where there is none.
-#[derive(Drop)]
+#[derive(Clone, Copy)]
 pub struct Cells {
     pub cells: [u8; 81],
     pub count: usize,
@@ -16,7 +18,7 @@ pub struct Cells {
 }
 
 // A word of a line: where it starts, and where it ends.
-#[derive(Drop)]
+#[derive(Clone, Copy)]
 pub struct Word {
     pub start: usize,
     pub end: usize,
@@ -24,7 +26,7 @@ pub struct Word {
 
 // A line taken apart: the letter of its command, how many words follow (four stand for more), and the first three of
 // them.
-#[derive(Drop)]
+#[derive(Clone, Copy)]
 pub struct Command {
     pub verb: u8,
     pub words: usize,

@@ -12,7 +12,7 @@ use puzzle::digit_at;
 use sudoku::cell_of;
 
 // Whether what was to be changed stood as it must, and the status afterwards.
-#[derive(Drop)]
+#[derive(Clone, Copy)]
 pub struct Changed {
     pub stood: bool,
     pub solved: u8,

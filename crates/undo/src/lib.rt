@@ -1,6 +1,8 @@
 // Undo and redo: a recorded move taken back, and performed again, as its slot says. No slot is written.
 // A call asks whether its slot is sound before it changes anything, and
 // digit and marks when it changes them; a refused one puts the board back.
+#![tactic(auto)]
+
 pub mod asking;
 pub mod digits;
 pub mod marks;

@@ -1,6 +1,8 @@
 // Replays stored answers of the Rust original: each block of standard input is a session or a reopening with what the
 // original answered. Every answer, the board, the record, its reopening, the questions and some readings must be those
 // that are stored. All of it goes through the functions that a host calls. docs/VECTORS.md has the layout.
+#![tactic(auto)]
+
 ghost use Rattle.std.specs.Prelude.{◌<◌, ◌≤◌};
 
 use board::Board;
@@ -128,7 +130,7 @@ fn note_value(note: u16) -> usize {
 }
 
 // What is known of a session as its block is read: where reading stands, and what was found.
-#[derive(Drop)]
+#[derive(Clone, Copy)]
 struct Walk {
     board: Board,
     at: usize,
@@ -398,7 +400,7 @@ fn session(block: &[u8]) -> Walk {
 }
 
 // What was replayed, and how much of it was otherwise than stored.
-#[derive(Drop)]
+#[derive(Clone, Copy)]
 struct Tally {
     more: bool,
     sessions: usize,

@@ -1,0 +1,23 @@
+-- `puzzle::units::columns_clear` meets its contract: what is left to test from `k` on decides.
+-- Assumes nothing.
+use Prim.Native.Nat.{ℕ, ◌≤◌, ◌-◌, ◌*◌}
+use mathlib.Core.Path.{◌≡◌, refl, sym, ◌∙◌}
+use mathlib.Core.Bool.{Bool}
+use mathlib.Core.List.{List}
+use native.Mathlib.Omega.{arith}
+use borrow.Author.Rules.{rules}
+use borrow.Author.Tests.{not-true, not-false}
+use Rattle.sudoku.specs.Tests.{every}
+use Rattle.sudoku.proofs.Walks.{every_more, every_fails, every_all}
+use Rattle.puzzle.specs.Code.Units.{step_clear, columns_clear}
+use Rattle.puzzle.proofs.units.columns_clear.Given as goal
+
+-- the test at one distance
+abbrev pub test : List ℕ → ℕ → Bool
+test grid k = step_clear grid (9 * k)
+
+abbrev pub invariant-loop-k : goal.invariant-loop-k
+invariant-loop-k l = (1 ≤ l.k) × (l.k ≤ 9) × (columns_clear l.digits ≡ every (test l.digits) (9 - l.k) l.k)
+
+abbrev pub decreases-loop-k : goal.decreases-loop-k
+decreases-loop-k l = 9 - l.k

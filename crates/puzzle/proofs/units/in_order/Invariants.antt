@@ -1,0 +1,26 @@
+-- `puzzle::units::in_order` meets its contract: the entries passed so far are those of the order.
+-- Assumes nothing.
+use Prim.Native.Nat.{ℕ, ◌≤◌, ◌<◌, ◌-◌}
+use mathlib.Core.Path.{◌≡◌, refl, ◌∙◌}
+use mathlib.Core.Bool.{true}
+use mathlib.Core.List.{List}
+use native.Mathlib.Omega.{arith}
+use borrow.Author.Rules.{rules}
+use borrow.Author.Tests.{ltb-true}
+use lib.Dec.{ltb}
+use lib.ListN.{length, get_or, take, length-set}
+use Rattle.sudoku.specs.Tests.{every, listed}
+use Rattle.sudoku.proofs.Walks.{every_at}
+use Rattle.sudoku.proofs.Listed.{fill_more, fill_all}
+use Rattle.puzzle.specs.Code.Units.{reordered}
+use Rattle.puzzle.proofs.units.in_order.Given as goal
+
+-- what stands at i in the order
+abbrev pub entry : List ℕ → List ℕ → ℕ → ℕ
+entry digits order i = get_or digits (get_or order i 0) 0
+
+abbrev pub invariant-loop-i : goal.invariant-loop-i
+invariant-loop-i l = (l.i ≤ 81) × (length l.ordered ≡ 81) × (take l.i l.ordered ≡ listed (entry l.digits l.order) l.i 0)
+
+abbrev pub decreases-loop-i : goal.decreases-loop-i
+decreases-loop-i l = 81 - l.i

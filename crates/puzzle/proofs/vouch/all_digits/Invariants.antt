@@ -1,0 +1,25 @@
+-- `puzzle::vouch::all_digits` meets its contract. The invariant: what
+-- was found so far, and what is left of the walk, make the whole walk.
+-- Assumes nothing.
+use Prim.Native.Nat.{ℕ, ◌≤◌, ◌-◌}
+use mathlib.Core.Path.{◌≡◌, refl, sym, ap, ◌∙◌}
+use mathlib.Core.Bool.{Bool}
+use mathlib.Core.List.{List}
+use native.Mathlib.Omega.{arith}
+use borrow.Author.Rules.{rules}
+use Rattle.sudoku.specs.Tests.{both, every}
+use Rattle.sudoku.specs.Grid.{in_range, at}
+use Rattle.puzzle.specs.Code.Rows.{flat}
+use Rattle.puzzle.proofs.Columns.{clear_more, clear_all}
+use Rattle.puzzle.proofs.Rows.{flat_cell}
+use Rattle.puzzle.proofs.vouch.all_digits.Given as goal
+
+-- the test of one cell
+abbrev pub test : List (List ℕ) → ℕ → Bool
+test rows cell = in_range (at (flat rows) cell)
+
+abbrev pub invariant-loop-cell : goal.invariant-loop-cell
+invariant-loop-cell l = (1 ≤ l.cell) × (l.cell ≤ 82) × (every (test l.rows) 81 1 ≡ both l.ok (every (test l.rows) (82 - l.cell) l.cell))
+
+abbrev pub decreases-loop-cell : goal.decreases-loop-cell
+decreases-loop-cell l = 82 - l.cell
