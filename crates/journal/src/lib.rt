@@ -2,7 +2,6 @@
 // what each one displaces, slots of eight bytes, and the two counts.
 #![tactic(auto)]
 
-
 pub mod checks;
 pub mod notes;
 pub mod slots;

@@ -1,0 +1,16 @@
+-- `journal::notes::holders` meets its contract. The loop's invariant: the mask is that of the cells from i on.
+-- Assumes nothing.
+use Prim.Native.Nat.{◌≤◌}
+use mathlib.Core.Path.{◌≡◌, sym, ◌∙◌}
+use native.Mathlib.Omega.{arith}
+use borrow.Author.Rules.{rules}
+use lib.ListN.{length, drop}
+use Rattle.journal.specs.State.{holders}
+use Rattle.journal.proofs.CellLoops.{holders_turn, holders_end, holders_fit}
+use Rattle.journal.proofs.notes.holders.Given as goal
+
+abbrev pub invariant-loop-i : goal.invariant-loop-i
+invariant-loop-i l = (l.i ≤ 20) × (l.mask ≡ holders l.notes l.digit (drop l.i l.cells))
+
+abbrev pub decreases-loop-i : goal.decreases-loop-i
+decreases-loop-i l = l.i

@@ -1,0 +1,20 @@
+-- `journal::notes::strike_masked_in` meets its contract. The loop's invariant:
+-- striking by the rest of the mask at what is left of the cells completes the notes,
+-- and what was found so far together with what is found there completes the answer.
+-- Assumes nothing.
+use Prim.Native.Nat.{◌-◌}
+use mathlib.Core.Path.{◌≡◌, refl, sym, ◌∙◌}
+use lib.ListN.{length, drop}
+use Rattle.sudoku.specs.Tests.{both}
+use Rattle.journal.specs.State.{strike_at, strike_masked}
+use Rattle.journal.specs.Code.InTurn.{not_missing, none_missing_in_turn}
+use Rattle.journal.proofs.CellLoops.{in_turn_step, in_turn_end, strike_masked_turn, strike_masked_end}
+use borrow.Author.Rules.{rules}
+use Rattle.journal.proofs.notes.strike_masked_in.Given as goal
+
+abbrev pub invariant-loop-i : goal.invariant-loop-i
+invariant-loop-i l =
+    (none_missing_in_turn l.initial.notes l.digit l.mask l.cells ≡ both l.ok (none_missing_in_turn l.notes l.digit l.rest (drop l.i l.cells))) × (strike_masked l.initial.notes l.digit l.mask l.cells ≡ strike_masked l.notes l.digit l.rest (drop l.i l.cells))
+
+abbrev pub decreases-loop-i : goal.decreases-loop-i
+decreases-loop-i l = length l.cells - l.i
