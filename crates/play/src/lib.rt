@@ -4,7 +4,6 @@
 // refused call hands it back as it came, and touches no lent byte.
 #![tactic(auto)]
 
-
 pub mod checks;
 pub mod moves;
 pub mod numbers;

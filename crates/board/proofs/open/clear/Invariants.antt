@@ -1,0 +1,15 @@
+-- `board::open::clear` meets its contract: as many bytes as were passed are zero.
+-- Assumes nothing.
+use Prim.Native.Nat.{◌≤◌, ◌-◌}
+use mathlib.Core.Path.{◌≡◌, refl, ◌∙◌}
+use native.Mathlib.Omega.{arith}
+use lib.ListN.{length, take, replicate, length-set}
+use Rattle.board.proofs.Opening.{clear_more, clear_all}
+use borrow.Author.Rules.{rules}
+use Rattle.board.proofs.open.clear.Given as goal
+
+abbrev pub invariant-loop-i : goal.invariant-loop-i
+invariant-loop-i l = (length l.memory ≡ length l.initial.memory) × (l.i ≤ length l.memory) × (take l.i l.memory ≡ replicate l.i 0)
+
+abbrev pub decreases-loop-i : goal.decreases-loop-i
+decreases-loop-i l = length l.memory - l.i

@@ -1,0 +1,27 @@
+-- `board::value::cell_values` meets its contract. The invariant: what was found so far, and what is left
+-- of the walk, make the whole walk; and the one walk, with both tests of each cell, is the two.
+-- Assumes nothing.
+use Prim.Native.Nat.{ℕ, ◌≤◌, ◌+◌, ◌-◌}
+use mathlib.Core.Path.{◌≡◌, refl, sym, ap, ◌∙◌}
+use mathlib.Core.Bool.{Bool}
+use mathlib.Core.List.{List}
+use native.Mathlib.Omega.{arith}
+use borrow.Author.Rules.{rules}
+use lib.ListN.{get_or}
+use Rattle.sudoku.specs.Tests.{both, every}
+use Rattle.sudoku.specs.Grid.{in_range}
+use Rattle.sudoku.proofs.Walks.{every_both}
+use Rattle.board.specs.Board.{may_stand, digit_value, solution_value}
+use Rattle.board.proofs.Values.{at_next, turn, at_end}
+use Rattle.board.proofs.value.cell_values.Given as goal
+
+-- both tests of a cell
+abbrev pub cell_value : List ℕ → List ℕ → List ℕ → ℕ → Bool
+cell_value digits given solution cell = both (digit_value digits given cell) (solution_value solution cell)
+
+abbrev pub invariant-loop-i : goal.invariant-loop-i
+invariant-loop-i l =
+    (l.i ≤ 81) × (every (cell_value l.digits l.given l.solution) 81 1 ≡ both l.ok (every (cell_value l.digits l.given l.solution) (82 - (l.i + 1)) (l.i + 1)))
+
+abbrev pub decreases-loop-i : goal.decreases-loop-i
+decreases-loop-i l = 81 - l.i

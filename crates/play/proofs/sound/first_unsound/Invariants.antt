@@ -1,0 +1,16 @@
+-- `play::sound::first_unsound` meets its contract: what is left to test from slot i + 1 on decides.
+-- Assumes nothing.
+use Prim.Native.Nat.{ℕ, ◌≤◌, ◌+◌, ◌-◌}
+use mathlib.Core.Path.{◌≡◌, sym, ap, ◌∙◌}
+use native.Mathlib.Omega.{arith}
+use Rattle.puzzle.specs.Refusals.{first_refused}
+use Rattle.puzzle.proofs.Refusals.{walk_refused, walk_more, walk_all}
+use Rattle.play.specs.Play.{unsound_slot}
+use borrow.Author.Rules.{rules}
+use Rattle.play.proofs.sound.first_unsound.Given as goal
+
+abbrev pub invariant-loop-i : goal.invariant-loop-i
+invariant-loop-i l = (l.i ≤ l.made) × (first_refused (unsound_slot l.given l.journal) l.made 1 ≡ first_refused (unsound_slot l.given l.journal) (l.made + 1 - (l.i + 1)) (l.i + 1))
+
+abbrev pub decreases-loop-i : goal.decreases-loop-i
+decreases-loop-i l = l.made - l.i
