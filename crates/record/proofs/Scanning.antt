@@ -281,9 +281,9 @@ before_count s p = let le = leb-true s.phase 1 p in ne_eqb s.phase 2 (λ e. omeg
 one_more : (n : ℕ) {A : Type 0} (x : A) (l : List A) → n + 1 + length l ≡ n + length (x ∷ l)
 one_more n x l = omega arith
 
-counted : (s : Progress) (is : Items) → scan_from s is ≡ totals (scan s.phase s.item is) s (parts_in is)
+counted : (is : Items) (s : Progress) → scan_from s is ≡ totals (scan s.phase s.item is) s (parts_in is)
 unfolding scan_from scan parts_in no_parts add item_step given_step move_step undone_step check_step may_stand reached malformed_at is_accepted any_late pick
-counted s ended =
+counted ended s =
     by_test (eqb s.phase 2)
     (λ p.
     pick_true _ _ _ p
@@ -295,9 +295,9 @@ counted s ended =
   where
     here : (n : ℕ) → n ≡ n + 0
     here n = omega arith
-counted s cut = refl
-counted s (then (Given row column digit) is) =
-    counted_then s (Given row column digit) is (eqb s.phase 0) _ refl refl (counted _ is)
+counted cut s = refl
+counted (then (Given row column digit) is) s =
+    counted_then s (Given row column digit) is (eqb s.phase 0) _ refl refl (counted is _)
     (λ p.
     λ j.
     total (scan (eqb-true s.phase 0 p j) (add-one s.item j) is)
@@ -306,8 +306,8 @@ counted s (then (Given row column digit) is) =
     (pick (eqb s.phase 2) s.undone (parts_in is).undone)
     (s.checks + length (parts_in is).checks)
     (either s.late (any_late (parts_in is).checks)))
-counted s (then (Played m) is) =
-    counted_then s (Played m) is (leb s.phase 1) _ refl refl (counted _ is)
+counted (then (Played m) is) s =
+    counted_then s (Played m) is (leb s.phase 1) _ refl refl (counted is _)
     (λ p.
     λ j.
     total (scan 1 (add-one s.item j) is)
@@ -316,8 +316,8 @@ counted s (then (Played m) is) =
     (sym (pick_false (eqb s.phase 2) s.undone (parts_in is).undone (before_count s p)) j)
     (s.checks + length (parts_in is).checks)
     (either s.late (any_late (parts_in is).checks)))
-counted s (then (Undone n) is) =
-    counted_then s (Undone n) is (leb s.phase 1) _ refl refl (counted _ is)
+counted (then (Undone n) is) s =
+    counted_then s (Undone n) is (leb s.phase 1) _ refl refl (counted is _)
     (λ p.
     λ j.
     total (scan 2 (add-one s.item j) is)
@@ -326,8 +326,8 @@ counted s (then (Undone n) is) =
     (sym (pick_false (eqb s.phase 2) s.undone n (before_count s p)) j)
     (s.checks + length (parts_in is).checks)
     (either s.late (any_late (parts_in is).checks)))
-counted s (then (Check standing row column digit) is) =
-    counted_then s (Check standing row column digit) is (eqb s.phase 2) _ refl refl (counted _ is)
+counted (then (Check standing row column digit) is) s =
+    counted_then s (Check standing row column digit) is (eqb s.phase 2) _ refl refl (counted is _)
     (λ p.
     λ j.
     total (scan (eqb-true s.phase 2 p j) (add-one s.item j) is)
@@ -341,7 +341,7 @@ counted s (then (Check standing row column digit) is) =
 pub scan_start : (bytes : List ℕ) → scan_from (progress 0 1 0 0 0 0 0 false) (left bytes 0) ≡ scanned_of bytes
 unfolding left scanned_of malformed parts_of_bytes pick either
 scan_start bytes =
-    counted (progress 0 1 0 0 0 0 0 false) (items_of_bytes bytes)
+    counted (items_of_bytes bytes) (progress 0 1 0 0 0 0 0 false)
     ∙ (λ j.
     total (malformed bytes) (zero-add (length (parts_of_bytes bytes).givens) j) (zero-add (length (parts_of_bytes bytes).moves) j)
     (parts_of_bytes bytes).undone

@@ -1,0 +1,40 @@
+-- `record::write::lay_givens` meets its contract: what is left to lay.
+-- Assumes nothing.
+use Prim.Native.Nat.{◌≤◌, ◌+◌, ◌-◌}
+use mathlib.Core.Path.{sym, ap, ◌∙◌}
+use native.Mathlib.Omega.{arith}
+use lib.ListN.{length}
+use Rattle.journal.specs.Bytes.{over}
+use Rattle.record.specs.Code.Laying.{given_bytes}
+use Rattle.record.proofs.Laying.{Laying, laying_start, laying_room, laying_more, laying_end, givens_left, givens_turn, givens_none, givens_all}
+use borrow.Author.Rules.{rules}
+use Rattle.record.proofs.write.lay_givens.Goals as goal
+
+pub loop-cell-init : goal.loop-cell-init
+loop-cell-init c =
+    let a = c.args in
+    (omega arith, omega arith, laying_start a.output.now 0 (givens_left a.board 1) (omega (arith, c.requires, ap length (givens_all a.board))))
+
+pub lay_given-at-requires : goal.lay_given-at-requires
+lay_given-at-requires c =
+    let a = c.args in
+    let turn = c.loop-cell in
+    (omega arith, laying_room _ _ _ _ _ _ turn.invariant.2 (given_bytes a.board.given a.board.digits turn.cell) (givens_left a.board (turn.cell + 1)) (givens_turn a.board turn.cell (omega arith)))
+
+pub loop-cell-preserved : goal.loop-cell-preserved
+loop-cell-preserved c =
+    let a = c.args in
+    let turn = c.loop-cell in
+    let lay-given = c.lay_given-at in
+    (omega arith, omega arith, laying_more _ _ _ _ _ _ turn.invariant.2 (given_bytes a.board.given a.board.digits turn.cell) (givens_left a.board (turn.cell + 1)) _ _ (givens_turn a.board turn.cell (omega arith)) lay-given.ensures.0 lay-given.ensures.1)
+
+pub shape_of-output : goal.shape_of-output
+shape_of-output c =
+    c.loop-cell.invariant.2.same
+
+pub returns : goal.returns
+returns c =
+    let a = c.args in
+    let turn = c.loop-cell in
+    let end = laying_end _ _ _ _ _ _ turn.invariant.2 (givens_none a.board turn.cell (omega arith)) in
+    (omega (arith, end.0, ap length (givens_all a.board)), end.1 ∙ ap (over a.output.now 0) (sym (givens_all a.board)))

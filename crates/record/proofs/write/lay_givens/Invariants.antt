@@ -1,0 +1,19 @@
+-- `record::write::lay_givens` meets its contract: what is left to lay.
+-- Assumes nothing.
+use Prim.Native.Nat.{◌≤◌, ◌+◌, ◌-◌}
+use mathlib.Core.Path.{sym, ap, ◌∙◌}
+use native.Mathlib.Omega.{arith}
+use lib.ListN.{length}
+use Rattle.journal.specs.Bytes.{over}
+use Rattle.record.specs.Code.Laying.{given_bytes}
+use Rattle.record.proofs.Laying.{Laying, laying_start, laying_room, laying_more, laying_end, givens_left, givens_turn, givens_none, givens_all}
+use borrow.Author.Rules.{rules}
+use Rattle.record.proofs.write.lay_givens.Given as goal
+
+abbrev pub invariant-loop-cell : goal.invariant-loop-cell
+invariant-loop-cell l =
+    (1 ≤ l.cell) × (l.cell ≤ 82) × Laying l.initial.output 0 (givens_left l.board 1) l.output l.at (givens_left l.board l.cell)
+
+abbrev pub decreases-loop-cell : goal.decreases-loop-cell
+decreases-loop-cell l =
+    82 - l.cell

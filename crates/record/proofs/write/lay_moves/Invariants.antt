@@ -1,0 +1,23 @@
+-- `record::write::lay_moves` meets its contract: what is left to lay.
+-- Assumes nothing.
+use Prim.Native.Nat.{◌≤◌, ◌+◌, ◌-◌}
+use mathlib.Core.Path.{sym, ap, ◌∙◌}
+use native.Mathlib.Omega.{arith}
+use lib.ListN.{length}
+use Rattle.journal.specs.declared.Move.{Move}
+use Rattle.journal.specs.Bytes.{over}
+use Rattle.journal.specs.Slots.{move_of}
+use Rattle.record.specs.declared.Item.TheVariants.{Played}
+use Rattle.record.specs.Items.{encode}
+use Rattle.record.proofs.Laying.{Laying, laying_start, laying_room, laying_more, laying_end, items_left, items_turn, items_none, move_in, moves_left}
+use borrow.Author.Rules.{rules}
+use Rattle.record.proofs.write.lay_moves.Given as goal
+
+abbrev pub invariant-loop-n : goal.invariant-loop-n
+invariant-loop-n l =
+    (1 ≤ l.n) × (l.n ≤ l.made + 1)
+    × Laying l.initial.output l.start (items_left Played (move_in l.journal) (l.made + 1) 1) l.output l.at (items_left Played (move_in l.journal) (l.made + 1) l.n)
+
+abbrev pub decreases-loop-n : goal.decreases-loop-n
+decreases-loop-n l =
+    l.made + 1 - l.n

@@ -1,0 +1,26 @@
+-- `record::write::lay_three` meets its contract: three stores, one behind the other.
+-- Assumes nothing.
+use mathlib.Core.Path.{refl, ◌∙◌}
+use mathlib.Core.List.{[], ◌∷◌}
+use native.Mathlib.Omega.{arith}
+use lib.ListN.{length-set}
+use Rattle.journal.proofs.Stores.{laid_over, stored}
+use borrow.Author.Rules.{rules}
+use Rattle.record.proofs.write.lay_three.Goals as goal
+
+pub bounds-output-at-2 : goal.bounds-output-at-2
+bounds-output-at-2 c =
+    simp length-set (omega arith)
+
+pub bounds-output-at-3 : goal.bounds-output-at-3
+bounds-output-at-3 c =
+    simp length-set (omega arith)
+
+pub shape_of-output : goal.shape_of-output
+shape_of-output c =
+    simp length-set
+
+pub returns : goal.returns
+returns c =
+    let a = c.args in
+    (refl, stored a.output.now a.at a.a (a.b ∷ a.c ∷ []) (omega arith) ∙ laid_over a.output.now a.at (a.a ∷ a.b ∷ a.c ∷ []) (omega arith))
