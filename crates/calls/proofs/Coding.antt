@@ -4,7 +4,7 @@ use Prim.Native.Nat.{ℕ, zero, suc, ◌+◌, ◌*◌, ◌/◌, ◌≤◌}
 use mathlib.Core.Path.{◌≡◌, refl, sym, ap, ◌∙◌}
 use mathlib.Core.List.{List, [], ◌∷◌, ◌++◌, map}
 use native.Mathlib.Omega.{arith}
-use lib.ListN.{length, get_or, length_map}
+use lib.ListN.{length, get_or, length-map}
 use Rattle.sudoku.specs.Tests.{pick, listed}
 use Rattle.sudoku.proofs.Listed.{length_listed}
 use Rattle.journal.specs.declared.Move.TheVariants.{Place, Erase, WriteMark, StrikeMark}
@@ -32,7 +32,7 @@ module _ (s : Session) (bytes room : List ℕ) (cs : List Call) (p : decoded byt
   as_many : length bytes / call_bytes ≡ length cs
   unfolding decoded
   as_many =
-      sym (length_listed (decode_at bytes) (length bytes / call_bytes) 0) ∙ ap (λ (l : List Decoded). length l) p ∙ length_map cs Of
+      sym (length_listed (decode_at bytes) (length bytes / call_bytes) 0) ∙ ap (λ (l : List Decoded). length l) p ∙ length-map cs Of
 
   all_groups : groups (length bytes) (length room) ≡ length bytes / call_bytes
   unfolding groups

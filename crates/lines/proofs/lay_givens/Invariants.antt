@@ -1,0 +1,19 @@
+-- `lines::lay_givens` meets its contract: what is left to lay.
+-- Assumes nothing.
+use Prim.Native.Nat.{◌≤◌, ◌+◌, ◌-◌}
+use mathlib.Core.Path.{sym, ap, ◌∙◌}
+use native.Mathlib.Omega.{arith}
+use lib.ListN.{length}
+use Rattle.journal.specs.Bytes.{over}
+use Rattle.record.proofs.Laying.{Laying, laying_start, laying_room, laying_more, laying_end}
+use Rattle.lines.specs.Code.Triples.{given_bytes}
+use Rattle.lines.proofs.Reading.{digits_room, digits_left, digits_turn, digits_none, digits_all}
+use borrow.Author.Rules.{rules}
+use Rattle.lines.proofs.lay_givens.Given as goal
+
+abbrev pub invariant-loop-cell : goal.invariant-loop-cell
+invariant-loop-cell l =
+    (1 ≤ l.cell) × (l.cell ≤ 82) × Laying l.initial.output 0 (digits_left l.digits 1) l.output l.at (digits_left l.digits l.cell)
+
+abbrev pub decreases-loop-cell : goal.decreases-loop-cell
+decreases-loop-cell l = 82 - l.cell

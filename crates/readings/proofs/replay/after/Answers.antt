@@ -1,0 +1,61 @@
+-- `readings::replay::after` meets its contract: what is left to apply from slot i + 1 on leads to the same state.
+-- Assumes nothing.
+use Prim.Native.Nat.{ℕ, ◌≤◌, ◌+◌, ◌-◌}
+use mathlib.Core.Path.{◌≡◌, refl, sym, ap, ◌∙◌}
+use native.Mathlib.Omega.{arith}
+use Rattle.sudoku.specs.Tests.{run}
+use Rattle.sudoku.proofs.Walks.{run_more, run_all}
+use Rattle.journal.specs.declared.Slot.{Slot}
+use Rattle.journal.specs.State.{State, perform_again}
+use Rattle.journal.specs.Slots.{move_of}
+use Rattle.board.specs.declared.Board.{Board}
+use Rattle.board.specs.Board.{state_of, counts_of, board_of, moved}
+use Rattle.play.specs.Code.Parts.{parts}
+use Rattle.readings.specs.Reading.{opening_of, opening_board, apply_slot, state_after, board_after}
+use borrow.Author.Rules.{rules}
+use Rattle.readings.proofs.replay.after.Goals as goal
+
+-- what the opening board is: its state, and the rest of the board as it came
+module _ (b : Board) where
+  opened-state : state_of (opening_board b) ≡ opening_of b
+  unfolding state_of opening_board board_of moved
+  opened-state = refl
+
+  rest-stays : (s : State) → moved (opening_board b) s (counts_of (opening_board b)) ≡ moved b s (counts_of b)
+  unfolding opening_board counts_of board_of moved
+  rest-stays s = refl
+
+pub loop-i-init : goal.loop-i-init
+unfolding state_of
+loop-i-init c =
+    let a = c.args in
+    (omega arith, ap (λ (n : ℕ). run (apply_slot a.journal.now) (state_of c.opening-stood.result) n 1) {x = a.k} {y = a.k + 1 - 1} (omega arith))
+
+pub loop-i-preserved : goal.loop-i-preserved
+unfolding apply_slot
+loop-i-preserved c =
+    let a = c.args in
+    let turn = c.loop-i in
+    let s = parts c.opening-stood.result.given turn.digits turn.notes turn.solved in
+    let applied = c.again_in-solved.ensures c.opening-stood.result.given ∙ ap (λ (x : Slot). perform_again s (move_of x) x.struck) c.slot_at.ensures in (
+      omega arith,
+      turn.invariant.1
+          ∙ run_more (apply_slot a.journal.now) s (a.k + 1) (turn.i + 1) (omega (arith, c.loop-i-test.true))
+          ∙ ap (λ (t : State). run (apply_slot a.journal.now) t (a.k + 1 - (turn.i + 1 + 1)) (turn.i + 1 + 1)) (sym applied),
+    )
+
+pub returns : goal.returns
+unfolding board_after state_after state_of counts_of board_of moved
+returns c =
+    let a = c.args in
+    let turn = c.loop-i in
+    let opened = c.opening-stood in
+    let s = parts opened.result.given turn.digits turn.notes turn.solved in
+    let stood : s ≡ state_after a.board a.journal.now a.k =
+    sym
+    (ap (λ (t : State). run (apply_slot a.journal.now) t a.k 1) (sym (ap state_of opened.ensures ∙ opened-state a.board))
+    ∙ turn.invariant.1
+    ∙ run_all (apply_slot a.journal.now) s (a.k + 1) (turn.i + 1) (omega (arith, c.loop-i-test.false))) in
+    ap (λ (t : State). moved opened.result t (counts_of opened.result)) stood
+    ∙ ap (λ (b : Board). moved b (state_after a.board a.journal.now a.k) (counts_of b)) opened.ensures
+    ∙ rest-stays a.board (state_after a.board a.journal.now a.k)

@@ -1,0 +1,27 @@
+-- `reopen::read_checks` meets its contract: what is left to test, and what is left to store.
+-- Assumes nothing.
+use Prim.Native.Nat.{ℕ, ◌≤◌, ◌+◌, ◌-◌, ◌*◌}
+use mathlib.Core.Path.{◌≡◌, refl, sym, ap, ◌∙◌}
+use mathlib.Core.List.{List}
+use native.Mathlib.Omega.{arith}
+use Rattle.journal.specs.Limits.{check_item_bytes, check_bytes}
+use Rattle.journal.specs.Bytes.{over}
+use Rattle.journal.specs.StoredChecks.{stored_bytes, judged}
+use Rattle.journal.proofs.Memory.{stored_length}
+use Rattle.journal.specs.declared.Asked.{Asked}
+use Rattle.record.specs.Code.Counting.{asked_from}
+use Rattle.record.specs.Reopen.{to_play, checks_refusal}
+use Rattle.record.proofs.Laying.{Laying, laying_start, laying_more, laying_end}
+use Rattle.reopen.proofs.Checking.{asks_left, asks_all, stored_of, stored_size, stored_turn, check_stops, check_goes_on, check_ends, stored_ends}
+use borrow.Author.Rules.{rules}
+use Rattle.reopen.proofs.read_checks.Given as goal
+
+abbrev pub invariant-loop-k : goal.invariant-loop-k
+invariant-loop-k l =
+    (1 ≤ l.k) × (l.k ≤ l.count + 1) × (l.at ≡ l.start + check_item_bytes * (l.k - 1))
+    × (checks_refusal l.board l.cells 1 (asks_left l.bytes l.start l.count 1) ≡ checks_refusal l.board l.cells l.k (asks_left l.bytes l.start l.count l.k))
+    × Laying l.initial.checks 0 (stored_of l.board.solution (asks_left l.bytes l.start l.count 1)) l.checks (check_bytes * (l.k - 1)) (stored_of l.board.solution (asks_left l.bytes l.start l.count l.k))
+
+abbrev pub decreases-loop-k : goal.decreases-loop-k
+decreases-loop-k l =
+    l.count + 1 - l.k

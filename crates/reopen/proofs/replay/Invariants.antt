@@ -1,0 +1,33 @@
+-- `reopen::replay` meets its contract: what is left to perform from the board and the journal as they are decides.
+-- Assumes nothing.
+use Prim.Native.Nat.{ℕ, ◌≤◌, ◌<◌, ◌+◌, ◌-◌, ◌*◌}
+use mathlib.Core.Path.{◌≡◌, refl, sym, ap, ◌∙◌}
+use mathlib.Core.List.{List}
+use native.Mathlib.Omega.{arith}
+use lib.ListN.{length}
+use Rattle.puzzle.specs.declared.Refusal.{Refusal}
+use Rattle.puzzle.specs.Refusals.{accepted}
+use Rattle.journal.specs.declared.Counts.{Counts}
+use Rattle.journal.specs.Limits.{journal_bytes, move_item_bytes}
+use Rattle.board.specs.declared.Board.{Board}
+use Rattle.board.specs.Board.{whole, state_of, counts_of}
+use Rattle.board.specs.Open.{answer}
+use Rattle.play.specs.Play.{Played, played}
+use Rattle.record.specs.Reopen.{replay}
+use Rattle.reopen.specs.Code.Reopening.{moves_at}
+use Rattle.reopen.proofs.Replaying.{next_stops, next_made, next_wrote, turn_stops, turn_goes_on, turn_standing, replay_ends}
+use borrow.Author.Rules.{rules}
+use Rattle.reopen.proofs.replay.Given as goal
+
+-- the board of the loop: the lent board's givens, solution and checks with the locals
+abbrev pub now-at : Board → List ℕ → List ℕ → ℕ → Counts → Board
+now-at board digits notes solved counts = whole digits board.given notes board.solution solved counts.made counts.standing board.checks
+
+abbrev pub invariant-loop-k : goal.invariant-loop-k
+invariant-loop-k l =
+    (1 ≤ l.k) × (l.k ≤ l.count + 1) × (length l.journal ≡ journal_bytes) × (l.counts.standing < l.k) × (l.at ≤ l.start + move_item_bytes * (l.k - 1))
+    × (replay (now-at l.board l.digits l.notes l.solved l.counts) l.journal l.k (moves_at l.bytes l.at (l.count + 1 - l.k)) ≡ replay l.board l.initial.journal 1 (moves_at l.bytes l.start l.count))
+
+abbrev pub decreases-loop-k : goal.decreases-loop-k
+decreases-loop-k l =
+    l.count + 1 - l.k
