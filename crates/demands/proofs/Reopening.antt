@@ -8,7 +8,7 @@ use mathlib.Core.List.{List, [], ◌∷◌, map}
 use native.Mathlib.Nat.{le_refl}
 use native.Mathlib.Omega.{arith}
 use lib.Dec.{eqb}
-use lib.ListN.{length, length-replicate, length_map}
+use lib.ListN.{length, length-replicate, length-map}
 use lib.Seq.{take-length}
 use borrow.Author.Tests.{eq-eqb}
 use Rattle.sudoku.specs.Tests.{pick, both}
@@ -85,13 +85,13 @@ module _ (k : Book) (g : Good k) where
   book_sized =
       record {
         moves = g.few;
-        checks = omega (arith, g.few_checks, length_map k.checks asked);
+        checks = omega (arith, g.few_checks, length-map k.checks asked);
         in_time = all_asked InTime (λ c a. a.few);
       }
 
   book_counted : Counted (parts_of_book k)
   unfolding parts_of_book made
-  book_counted = record { undone = omega arith; asked = λ e. length_map k.checks asked ∙ g.asked e }
+  book_counted = record { undone = omega arith; asked = λ e. length-map k.checks asked ∙ g.asked e }
 
   book_readable : Readable (record_in k) k.solution
   unfolding record_in parts_of_book
@@ -179,7 +179,7 @@ module _ (k : Book) (g : Good k) where
   book_back =
       λ i.
       record {
-        answer = answer accepted (board_of (state_in k) k.solution (counts (made k) k.standing) (length_map k.checks asked i));
+        answer = answer accepted (board_of (state_in k) k.solution (counts (made k) k.standing) (length-map k.checks asked i));
         journal = over no_moves 0 (slots_in k);
         checks = over no_checks 0 (stored_all (judged_same k.givens k.solution k.checks g.admitted i));
       }

@@ -7,7 +7,7 @@ use mathlib.Core.Bool.{Bool, true}
 use mathlib.Core.List.{List, [], map}
 use lib.Dec.{eqb}
 use native.Mathlib.Omega.{arith}
-use lib.ListN.{length, take, length_map}
+use lib.ListN.{length, take, length-map}
 use borrow.Author.Tests.{eq-eqb, le-ltb, lt-ltb}
 use Rattle.sudoku.proofs.Walks.{both_true, first_none, pick_true, pick_false}
 use Rattle.sudoku.proofs.Each.{Each, each_to}
@@ -43,7 +43,7 @@ use Rattle.demands.proofs.Steps.{session_of}
 pub book_short : (k : Book) → Good k → length (record_in k) ≤ record_bytes
 unfolding record_in parts_of_book made
 book_short k g =
-    record_short (parts_of_book k) (omega (arith, g.opens.left)) g.few (omega (arith, g.few_checks, length_map k.checks asked))
+    record_short (parts_of_book k) (omega (arith, g.opens.left)) g.few (omega (arith, g.few_checks, length-map k.checks asked))
 
 module _ (k : Book) (g : Good k) where
   same_given : (board_in k).given ≡ given_cells k.givens
