@@ -65,13 +65,13 @@ shown_made : (offset : ℕ) (slot output : List ℕ) → slot_bytes ≤ length o
 unfolding shown
 shown_made offset slot output h = sym (pick_true _ _ _ (eq-eqb (show_number 0 (length output)) 0 (number_none (length output) h)))
 
-laid_whole : (slot output : List ℕ) → take (length slot) slot ++ drop (length slot) output ≡ over output 0 slot
+laid_whole : (slot output : List ℕ) → slot ++ drop (length slot) output ≡ over output 0 slot
 unfolding over
-laid_whole slot output = λ i. take-length slot i ++ drop (sym (zero-add (length slot)) i) output
+laid_whole slot output = λ i. slot ++ drop (sym (zero-add (length slot)) i) output
 
 -- copied
 pub shown_copied : (offset size : ℕ) (slot output left : List ℕ) (r : Refusal) → slot_bytes ≤ length output → length slot ≡ slot_bytes
-    → r ≡ accepted → size ≡ length slot → left ≡ take (length slot) slot ++ drop (length slot) output
+    → r ≡ accepted → size ≡ length slot → left ≡ slot ++ drop (length slot) output
     → showing (record { refusal = r; offset = offset; length = size }) left ≡ shown 0 offset slot output
 unfolding shown_at
 shown_copied offset size slot output left r h e a n o =

@@ -1,6 +1,6 @@
 // What the journal shows: the latest standing move, the next to redo, and the reading of move k.
 // A part of the journal cannot be returned over the C boundary: the slot's bytes are copied and its offset is answered.
-ghost use Rattle.std.specs.Prelude.{◌≡◌, length};
+ghost use Rattle.std.specs.Prelude.{◌≡◌, ◌≤◌, ◌++◌, drop, length};
 ghost use Rattle.journal.specs.Limits.{slot_bytes};
 ghost use Rattle.readings.specs.Reading.{reading_of};
 ghost use Rattle.pawdoku.specs.Library.{not_shown, shown, latest_shown, next_shown};
@@ -21,6 +21,17 @@ fn not_shown(number: u8) -> Shown
     }
 }
 
+// Bytes copied to the start of others, of which there are as many; those beyond stay.
+fn copy(part: &[u8], output: &mut [u8]) -> usize
+    requires { length part.now ≤ length output.old }
+    ensures count { result ≡ length part.now }
+    ensures output_after { output.new ≡ part.now ++ drop (length part.now) output.old }
+{
+    let n = part.len();
+    output[..n].copy_from_slice(part);
+    n
+}
+
 // A slot's bytes copied to the output's start; refused by 34 where the output is too short for them.
 fn copied(part: &[u8], offset: usize, output: &mut [u8]) -> Shown
     requires { length part.now ≡ slot_bytes }
@@ -30,7 +41,7 @@ fn copied(part: &[u8], offset: usize, output: &mut [u8]) -> Shown
     if output.len() < SLOT_BYTES {
         return not_shown(34);
     }
-    let length = bytes::copy(part, output);
+    let length = copy(part, output);
     Shown {
         refusal: accepted(),
         offset: offset,

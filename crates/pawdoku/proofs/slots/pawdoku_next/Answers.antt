@@ -1,0 +1,39 @@
+-- `pawdoku::slots::pawdoku_next` meets its contract.
+-- Assumes nothing.
+use borrow.Author.Rules.{rules}
+use mathlib.Core.Path.{refl, sym, ap, ◌∙◌}
+use native.Mathlib.Omega.{arith}
+use lib.ListN.{length}
+use Rattle.play.proofs.Accepted.{next_within}
+use Rattle.pawdoku.specs.Library.{Showing, next_shown}
+use Rattle.pawdoku.proofs.Showing.{shown_refused, shown_same, next_length}
+use Rattle.pawdoku.proofs.slots.pawdoku_next.Goals as goal
+
+pub returns-then-number-ne0 : goal.returns-then-number-ne0
+unfolding next_shown
+returns-then-number-ne0 c =
+    let a = c.args in
+    let n = c.next-part.ensures.1 in
+    let e = shown_refused _ _ _ _ a.output.now _ n c.if-number-ne0.true c.not_shown.ensures in
+    record { value = ap (λ (s : Showing). s.answer) e; output_after = ap (λ (s : Showing). s.output) e }
+
+pub overflow_mul-board : goal.overflow_mul-board
+overflow_mul-board c =
+    let a = c.args in
+    let k = next_within a.board a.journal.now (sym c.next-part.ensures.1 ∙ c.if-number-ne0.false) in
+    omega (arith, k)
+
+pub copied-requires : goal.copied-requires
+copied-requires c =
+    let a = c.args in
+    ap length c.next-part.ensures.0
+    ∙ next_length a.board a.journal.now (sym c.next-part.ensures.1 ∙ c.if-number-ne0.false)
+
+pub returns : goal.returns
+unfolding next_shown
+returns c =
+    let a = c.args in
+    let n = sym c.if-number-ne0.false ∙ c.next-part.ensures.1 in
+    let p = c.next-part.ensures.0 in
+    let e = shown_same _ _ _ _ _ _ a.output.now n refl p in
+    record { value = c.copied.ensures.value ∙ ap (λ (s : Showing). s.answer) e; output_after = c.copied.ensures.output_after ∙ ap (λ (s : Showing). s.output) e }
