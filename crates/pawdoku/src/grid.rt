@@ -6,65 +6,56 @@ ghost use Rattle.pawdoku.specs.Library.{digits_in, peer_cells};
 
 use crate::{Digits, PeerCells};
 
-#[unsafe(no_mangle)]
-pub extern "C" fn pawdoku_note_contains(note: u16, digit: u8) -> bool
+pub fn pawdoku_note_contains(note: u16, digit: u8) -> bool
     ensures { result ≡ contains note digit }
 {
     note::contains(note, digit)
 }
 
-#[unsafe(no_mangle)]
-pub extern "C" fn pawdoku_note_len(note: u16) -> usize
+pub fn pawdoku_note_len(note: u16) -> usize
     ensures { result ≡ len_of note }
 {
     note::len(note)
 }
 
-#[unsafe(no_mangle)]
-pub extern "C" fn pawdoku_note_is_empty(note: u16) -> bool
+pub fn pawdoku_note_is_empty(note: u16) -> bool
     ensures { result ≡ is_empty note }
 {
     note::is_empty(note)
 }
 
-#[unsafe(no_mangle)]
-pub extern "C" fn pawdoku_note_digits(note: u16) -> Digits
+pub fn pawdoku_note_digits(note: u16) -> Digits
     ensures { result ≡ digits_in note }
 {
     let digits = note::digits(note);
     Digits { digits: digits }
 }
 
-#[unsafe(no_mangle)]
-pub extern "C" fn pawdoku_cell_of(row: u8, column: u8) -> usize
+pub fn pawdoku_cell_of(row: u8, column: u8) -> usize
     ensures { result ≡ cell_of row column }
 {
     sudoku::cell_of(row, column)
 }
 
-#[unsafe(no_mangle)]
-pub extern "C" fn pawdoku_band(row: u8) -> u8
+pub fn pawdoku_band(row: u8) -> u8
     ensures { result ≡ box_index row }
 {
     sudoku::band(row)
 }
 
-#[unsafe(no_mangle)]
-pub extern "C" fn pawdoku_stack(column: u8) -> u8
+pub fn pawdoku_stack(column: u8) -> u8
     ensures { result ≡ box_index column }
 {
     sudoku::stack(column)
 }
 
-#[unsafe(no_mangle)]
-pub extern "C" fn pawdoku_is_peer_of(row: u8, column: u8, row2: u8, column2: u8) -> bool
+pub fn pawdoku_is_peer_of(row: u8, column: u8, row2: u8, column2: u8) -> bool
     ensures { result ≡ is_peer_of row column row2 column2 }
 {
     sudoku::is_peer_of(row, column, row2, column2)
 }
 
-#[unsafe(no_mangle)]
-pub extern "C" fn pawdoku_peers(cell: usize) -> PeerCells
+pub fn pawdoku_peers(cell: usize) -> PeerCells
     ensures { result ≡ peer_cells cell }
 {
     let cells = sudoku::peers(cell);

@@ -5,16 +5,14 @@ ghost use Rattle.lines.specs.Lines.{read_line_of, write_line_of};
 use board::Board;
 use record::Written;
 
-#[unsafe(no_mangle)]
-pub extern "C" fn pawdoku_read_line(line: &[u8], output: &mut [u8]) -> Written
+pub fn pawdoku_read_line(line: &[u8], output: &mut [u8]) -> Written
     ensures value { result ≡ (read_line_of line.now output.old).answer }
     ensures output_after { output.new ≡ (read_line_of line.now output.old).output }
 {
     lines::read_line(line, output)
 }
 
-#[unsafe(no_mangle)]
-pub extern "C" fn pawdoku_write_line(board: Board, output: &mut [u8]) -> Written
+pub fn pawdoku_write_line(board: Board, output: &mut [u8]) -> Written
     ensures value { result ≡ (write_line_of board output.old).answer }
     ensures output_after { output.new ≡ (write_line_of board output.old).output }
 {

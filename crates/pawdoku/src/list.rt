@@ -109,8 +109,7 @@ fn one_call(
 }
 
 // Runs an encoded list of calls, and writes each call's answer. The list itself is never refused.
-#[unsafe(no_mangle)]
-pub extern "C" fn pawdoku_play(
+pub fn pawdoku_play(
     board: Board,
     journal: &mut [u8],
     checks: &mut [u8],

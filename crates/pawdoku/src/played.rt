@@ -21,8 +21,7 @@ fn made(board: Board, journal: &mut [u8], m: Move) -> Answer
     play::moves::play(board, journal, m)
 }
 
-#[unsafe(no_mangle)]
-pub extern "C" fn pawdoku_place(
+pub fn pawdoku_place(
     board: Board,
     journal: &mut [u8],
     row: u8,
@@ -40,8 +39,7 @@ pub extern "C" fn pawdoku_place(
     made(board, journal, m)
 }
 
-#[unsafe(no_mangle)]
-pub extern "C" fn pawdoku_erase(board: Board, journal: &mut [u8], row: u8, column: u8) -> Answer
+pub fn pawdoku_erase(board: Board, journal: &mut [u8], row: u8, column: u8) -> Answer
     ensures value { result ≡ (erase_of board journal.old row column).answer }
     ensures journal_after { journal.new ≡ (erase_of board journal.old row column).journal }
 {
@@ -52,8 +50,7 @@ pub extern "C" fn pawdoku_erase(board: Board, journal: &mut [u8], row: u8, colum
     made(board, journal, m)
 }
 
-#[unsafe(no_mangle)]
-pub extern "C" fn pawdoku_write_mark(
+pub fn pawdoku_write_mark(
     board: Board,
     journal: &mut [u8],
     row: u8,
@@ -71,8 +68,7 @@ pub extern "C" fn pawdoku_write_mark(
     made(board, journal, m)
 }
 
-#[unsafe(no_mangle)]
-pub extern "C" fn pawdoku_strike_mark(
+pub fn pawdoku_strike_mark(
     board: Board,
     journal: &mut [u8],
     row: u8,
@@ -90,22 +86,19 @@ pub extern "C" fn pawdoku_strike_mark(
     made(board, journal, m)
 }
 
-#[unsafe(no_mangle)]
-pub extern "C" fn pawdoku_undo(board: Board, journal: &[u8]) -> Answer
+pub fn pawdoku_undo(board: Board, journal: &[u8]) -> Answer
     ensures { result ≡ undo_of board journal.now }
 {
     undo::undo(board, journal)
 }
 
-#[unsafe(no_mangle)]
-pub extern "C" fn pawdoku_redo(board: Board, journal: &[u8]) -> Answer
+pub fn pawdoku_redo(board: Board, journal: &[u8]) -> Answer
     ensures { result ≡ redo_of board journal.now }
 {
     undo::redo(board, journal)
 }
 
-#[unsafe(no_mangle)]
-pub extern "C" fn pawdoku_check(board: Board, checks: &mut [u8], row: u8, column: u8) -> Checked
+pub fn pawdoku_check(board: Board, checks: &mut [u8], row: u8, column: u8) -> Checked
     ensures value { result ≡ (check_of board checks.old row column).answer }
     ensures checks_after { checks.new ≡ (check_of board checks.old row column).checks }
 {

@@ -7,8 +7,7 @@ ghost use Rattle.record.specs.Reopen.{reopen_of};
 use board::{Answer, Board};
 use record::Written;
 
-#[unsafe(no_mangle)]
-pub extern "C" fn pawdoku_open(
+pub fn pawdoku_open(
     givens: &[u8],
     solution: &[u8],
     journal: &mut [u8],
@@ -21,8 +20,7 @@ pub extern "C" fn pawdoku_open(
     board::open::open(givens, solution, journal, checks)
 }
 
-#[unsafe(no_mangle)]
-pub extern "C" fn pawdoku_reopen(
+pub fn pawdoku_reopen(
     bytes: &[u8],
     solution: &[u8],
     journal: &mut [u8],
@@ -35,8 +33,7 @@ pub extern "C" fn pawdoku_reopen(
     reopen::reopen(bytes, solution, journal, checks)
 }
 
-#[unsafe(no_mangle)]
-pub extern "C" fn pawdoku_write(
+pub fn pawdoku_write(
     board: Board,
     journal: &[u8],
     checks: &[u8],

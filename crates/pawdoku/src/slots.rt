@@ -49,8 +49,7 @@ fn copied(part: &[u8], offset: usize, output: &mut [u8]) -> Shown
     }
 }
 
-#[unsafe(no_mangle)]
-pub extern "C" fn pawdoku_latest(board: Board, journal: &[u8], output: &mut [u8]) -> Shown
+pub fn pawdoku_latest(board: Board, journal: &[u8], output: &mut [u8]) -> Shown
     ensures value { result ≡ (latest_shown board journal.now output.old).answer }
     ensures output_after { output.new ≡ (latest_shown board journal.now output.old).output }
 {
@@ -62,8 +61,7 @@ pub extern "C" fn pawdoku_latest(board: Board, journal: &[u8], output: &mut [u8]
     copied(part, SLOT_BYTES * (board.standing - 1), output)
 }
 
-#[unsafe(no_mangle)]
-pub extern "C" fn pawdoku_next(board: Board, journal: &[u8], output: &mut [u8]) -> Shown
+pub fn pawdoku_next(board: Board, journal: &[u8], output: &mut [u8]) -> Shown
     ensures value { result ≡ (next_shown board journal.now output.old).answer }
     ensures output_after { output.new ≡ (next_shown board journal.now output.old).output }
 {
@@ -75,8 +73,7 @@ pub extern "C" fn pawdoku_next(board: Board, journal: &[u8], output: &mut [u8]) 
     copied(part, SLOT_BYTES * board.standing, output)
 }
 
-#[unsafe(no_mangle)]
-pub extern "C" fn pawdoku_reading(board: Board, journal: &[u8], k: usize) -> Reading
+pub fn pawdoku_reading(board: Board, journal: &[u8], k: usize) -> Reading
     ensures { result ≡ reading_of board journal.now k }
 {
     readings::read::reading(board, journal, k)

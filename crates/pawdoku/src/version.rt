@@ -5,8 +5,7 @@ ghost use Rattle.pawdoku.specs.Library.{version};
 // Raised with each change of the boundary; the name of pawdoku_abi_2 goes with it.
 pub const VERSION: u32 = 2;
 
-#[unsafe(no_mangle)]
-pub extern "C" fn pawdoku_version() -> u32
+pub fn pawdoku_version() -> u32
     ensures { result ≡ version }
 {
     VERSION
@@ -14,8 +13,7 @@ pub extern "C" fn pawdoku_version() -> u32
 
 // The header refers to the function that has its own version in the name, and nobody calls it: what was compiled for
 // another version finds no such function, so that a linker refuses it.
-#[unsafe(no_mangle)]
-pub extern "C" fn pawdoku_abi_2() -> u32
+pub fn pawdoku_abi_2() -> u32
     ensures { result ≡ version }
 {
     VERSION
