@@ -2,18 +2,19 @@
 // this is thin: the drawing is made in crate screen, every answer in the library.
 #![tactic(auto)]
 
-use libc::STDOUT_FILENO;
-
 pub mod deeds;
 pub mod drawing;
 pub mod words;
 
+// The descriptor that a program writes to.
+const STDOUT: i32 = 1;
+
 pub fn say(text: &[u8]) {
-    io::write_all(STDOUT_FILENO, text);
+    io::write_all(STDOUT, text);
 }
 
 pub fn number(n: usize) {
-    io::print_decimal(STDOUT_FILENO, n as u64);
+    io::print_decimal(STDOUT, n as u64);
 }
 
 fn is_printable(byte: u8) -> bool {

@@ -2,7 +2,6 @@
 // function of the board, and its contract says which.
 #![tactic(auto)]
 
-
 pub mod keys;
 pub mod picture;
 

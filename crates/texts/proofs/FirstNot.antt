@@ -16,8 +16,8 @@ module _ (f : ℕ → Bool) (e i : ℕ) where
       ap (λ (n : ℕ). first_not f n i) (left_one e i h)
       ∙ ap (λ (k : ℕ). pick (f i) (first_not f (e - (i + 1)) k) i) (sym (add-one i))
 
-  pub goes_on : i < e → f i ≡ true → first_not f (e - i) i ≡ first_not f (e - (i + 1)) (i + 1)
-  goes_on h p = looked h ∙ pick_true _ _ _ p
+  pub goes_on_lem : i < e → f i ≡ true → first_not f (e - i) i ≡ first_not f (e - (i + 1)) (i + 1)
+  goes_on_lem h p = looked h ∙ pick_true _ _ _ p
 
   pub stops : i < e → f i ≡ false → first_not f (e - i) i ≡ i
   stops h p = looked h ∙ pick_false _ _ _ p

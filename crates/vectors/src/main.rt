@@ -8,7 +8,6 @@ ghost use Rattle.std.specs.Prelude.{◌<◌, ◌≤◌};
 use board::Board;
 use calls::CALL_BYTES;
 use journal::{CHECK_BYTES, CHECK_MEMORY, JOURNAL_BYTES, MAX_CHECKS, MAX_MOVES, SLOT_BYTES};
-use libc::{STDIN_FILENO, STDOUT_FILENO};
 use lines::{GIVEN_BYTES, GIVENS_ROOM, LINE_BYTES};
 use pawdoku::asked::{
     pawdoku_can_redo, pawdoku_can_undo, pawdoku_cell, pawdoku_digits_left, pawdoku_is_consistent,
@@ -24,6 +23,10 @@ use readings::Reading;
 use record::RECORD_BYTES;
 use sudoku::{CELLS, LINE, SIDE, wide};
 
+// The descriptors that a program begins with.
+const STDIN: i32 = 0;
+
+const STDOUT: i32 = 1;
 // No sum of sizes in a block comes near this.
 const LARGE: usize = 1000000;
 // Room for the answers to the calls of a session: no stored one has as many.
@@ -466,7 +469,7 @@ fn read_block(buffer: &mut [u8], length: usize) -> usize {
     if length > buffer.len() {
         return 0;
     }
-    io::read_full(STDIN_FILENO, &mut buffer[..length])
+    io::read_full(STDIN, &mut buffer[..length])
 }
 
 // Reads one block, two bytes of length before it, and replays it. Where the input ends there is no more; a block cut
@@ -507,8 +510,8 @@ fn replay() -> Tally {
 }
 
 fn print(count: usize, what: &[u8]) {
-    io::print_decimal(STDOUT_FILENO, count as u64);
-    io::write_all(STDOUT_FILENO, what);
+    io::print_decimal(STDOUT, count as u64);
+    io::write_all(STDOUT, what);
 }
 
 fn main() {

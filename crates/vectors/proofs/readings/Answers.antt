@@ -1,0 +1,14 @@
+-- `vectors::readings` is safe and ends.
+-- Assumes nothing.
+use Prim.Native.Nat.{◌-◌}
+use borrow.Author.Rules.{rules}
+use Rattle.vectors.proofs.readings.Goals as goal
+
+pub loop-i-init : goal.loop-i-init
+loop-i-init c = tt
+
+pub loop-i-preserved : goal.loop-i-preserved
+loop-i-preserved c = tt
+
+pub returns : goal.returns
+returns c = tt
