@@ -5,50 +5,39 @@ ghost use Rattle.texts.specs.Grids.{no_cells};
 ghost use Rattle.files.specs.Disk.{file_bytes, name_bytes, ReadInto, is_whole, whole_cells, CellsRead};
 
 use crate::Got;
-use libc::PATH_MAX;
 use print::{number, say, shown};
+use std::fs::{OpenFile, OpenOptions, Permissions};
+use std::io::{Error, ErrorKind, Read, Write};
+use std::os::unix::fs::{OpenOptionsExt, PermissionsExt};
+use std::rt::Files;
+use std::{fs, io, str};
 use sudoku::CELLS;
 use texts::grids::cells;
 use texts::{Cells, part};
 
 // Bytes of the buffer that a file is read into: more than any puzzle or record has.
 pub const FILE_BYTES: usize = 8192;
+// Bytes of the memory that a name is held in: more than any name has that the system takes.
+pub const PATH_MAX: usize = 4096;
 
-// Why the last call failed, in plain words.
-fn reason(error: i32) {
-    if error == libc::ENOENT {
-        return say(b"there is no such file or folder");
+// Why a call failed, in plain words.
+fn reason(error: &Error) {
+    match error.kind() {
+        ErrorKind::NotFound => say(b"there is no such file or folder"),
+        ErrorKind::PermissionDenied => say(b"it is not allowed"),
+        ErrorKind::IsADirectory => say(b"it is a folder"),
+        ErrorKind::NotADirectory => say(b"a part of its path is no folder"),
+        ErrorKind::StorageFull => say(b"the disk is full"),
+        ErrorKind::ReadOnlyFilesystem => say(b"the disk is read-only"),
+        ErrorKind::InvalidInput => say(b"that is no name of a plain file"),
+        ErrorKind::InvalidFilename => say(b"the name is too long"),
+        ErrorKind::InvalidData => say(b"the name is not UTF-8"),
+        _ => say(b"the system refuses"),
     }
-    if error == libc::EACCES {
-        return say(b"it is not allowed");
-    }
-    if error == libc::EPERM {
-        return say(b"it is not allowed");
-    }
-    if error == libc::EISDIR {
-        return say(b"it is a folder");
-    }
-    if error == libc::ENOTDIR {
-        return say(b"a part of its path is no folder");
-    }
-    if error == libc::ENOSPC {
-        return say(b"the disk is full");
-    }
-    if error == libc::EROFS {
-        return say(b"the disk is read-only");
-    }
-    if error == libc::EINVAL {
-        return say(b"that is no name of a plain file");
-    }
-    if error == libc::ENAMETOOLONG {
-        return say(b"the name is too long");
-    }
-    say(b"the system refuses");
 }
 
 // A file that could not be read or written, and why.
-fn failed(what: &[u8], path: &[u8]) {
-    let error = os::errno();
+fn failed(what: &[u8], path: &[u8], error: &Error) {
     say(what);
     shown(path);
     say(b": ");
@@ -56,19 +45,31 @@ fn failed(what: &[u8], path: &[u8]) {
     say(b"\n");
 }
 
-// Reads behind the bytes that are there.
-fn read_some(fd: i32, buffer: &mut [u8], at: usize) -> isize {
-    if at < buffer.len() {
-        return libc::read(fd, &mut buffer[at..]);
+// A name as the system takes it: text in UTF-8, whatever bytes were given.
+fn name_of(path: &[u8]) -> io::Result<&str> {
+    match str::from_utf8(path) {
+        Ok(name) => Ok(name),
+        Err(_) => Err(Error::from(ErrorKind::InvalidData)),
     }
-    0
+}
+
+// Opens the file of a name.
+fn opened<R: Files>(rt: &R, how: &OpenOptions, path: &[u8]) -> io::Result<R::File> {
+    how.open(rt, name_of(path)?)
+}
+
+// Reads behind the bytes that are there.
+fn read_some<F: Read>(file: &mut F, buffer: &mut [u8], at: usize) -> io::Result<usize> {
+    if at < buffer.len() {
+        return file.read(&mut buffer[at..]);
+    }
+    Ok(0)
 }
 
 // Where the bytes end that were read.
-fn advanced(buffer: &[u8], at: usize, got: isize) -> usize
+fn advanced(buffer: &[u8], at: usize, more: usize) -> usize
     ensures { result ≤ length buffer.now }
 {
-    let more = io::count(got, buffer);
     if at > buffer.len() {
         return buffer.len();
     }
@@ -79,19 +80,22 @@ fn advanced(buffer: &[u8], at: usize, got: isize) -> usize
 }
 
 // Reads to the end of the file, or until the buffer is full. Every turn but the last brings a byte.
-fn read_all(fd: i32, buffer: &mut [u8; FILE_BYTES]) -> Got
+fn read_all<F: Read>(path: &[u8], file: &mut F, buffer: &mut [u8; FILE_BYTES]) -> Got
     ensures { (result.length ≤ file_bytes) × (result.good ≡ false → result.length ≡ 0) }
 {
     let mut at: usize = 0;
     let mut turns: usize = FILE_BYTES + 1;
     while turns > 0 {
-        let got = read_some(fd, buffer, at);
-        if got < 0 {
-            return Got {
-                good: false,
-                length: 0,
-            };
-        }
+        let got = match read_some(file, buffer, at) {
+            Ok(got) => got,
+            Err(error) => {
+                failed(b"cannot read ", path, &error);
+                return Got {
+                    good: false,
+                    length: 0,
+                };
+            }
+        };
         if got == 0 {
             return Got {
                 good: true,
@@ -108,23 +112,23 @@ fn read_all(fd: i32, buffer: &mut [u8; FILE_BYTES]) -> Got
 }
 
 // Reads a file whole. One that fills the buffer is longer than any puzzle or record.
-pub fn read(path: &[u8], buffer: &mut [u8; FILE_BYTES]) -> Got
+pub fn read<R: Files>(rt: &R, path: &[u8], buffer: &mut [u8; FILE_BYTES]) -> Got
     ensures { ReadInto result }
 {
     let nothing = Got {
         good: false,
         length: 0,
     };
-    let fd = os::open_read(path);
-    if fd < 0 {
-        failed(b"cannot read ", path);
-        return nothing;
-    }
-    let got = read_all(fd, buffer);
-    if !got.good {
-        failed(b"cannot read ", path);
-    }
-    libc::close(fd);
+    let mut how = OpenOptions::new();
+    how.read(true);
+    let mut file = match opened(rt, &how, path) {
+        Ok(file) => file,
+        Err(error) => {
+            failed(b"cannot read ", path, &error);
+            return nothing;
+        }
+    };
+    let got = read_all(path, &mut file, buffer);
     if got.length >= FILE_BYTES {
         say(b"cannot read ");
         shown(path);
@@ -189,106 +193,176 @@ fn no_cells() -> Cells
 }
 
 // The cells of a text file; none where it cannot be read or is not whole.
-pub fn read_cells(path: &[u8]) -> Cells
+pub fn read_cells<R: Files>(rt: &R, path: &[u8]) -> Cells
     ensures { CellsRead result }
 {
     let mut file = [0u8; FILE_BYTES];
-    let got = read(path, &mut file);
+    let got = read(rt, path, &mut file);
     if got.good {
         return whole_cells(path, &file, got.length);
     }
     no_cells()
 }
 
-// Whether the name is free, or is that of a plain file that may be written. A device answers no to fsync, and is not
+// Whether the name is free, or is that of a plain file that may be written. A device answers no to a sync, and is not
 // to be replaced.
-fn is_replaceable(path: &[u8]) -> bool {
-    let fd = os::open_update(path);
-    if fd < 0 {
-        return os::errno() == libc::ENOENT;
+fn is_replaceable<R: Files>(rt: &R, path: &[u8]) -> io::Result<()> {
+    let mut how = OpenOptions::new();
+    how.read(true).write(true);
+    match opened(rt, &how, path) {
+        Ok(file) => file.sync_all(),
+        Err(error) => match error.kind() {
+            ErrorKind::NotFound => Ok(()),
+            _ => Err(error),
+        },
     }
-    let synced = libc::fsync(fd);
-    libc::close(fd);
-    synced == 0
 }
 
-// Character i of the new file's name: the path, and an end that the system makes unique.
-fn name_byte(path: &[u8], i: usize) -> u8 {
+// Bytes behind the path in the new file's name: a full stop and a number.
+const NUMBERED: usize = 7;
+// How many numbers are tried. One is taken where a save was cut off before the new file got its name.
+const NUMBERS: usize = 1000000;
+
+// Character i of the new file's name: the path, and a number that no other file beside it has.
+fn name_byte(path: &[u8], i: usize, n: usize) -> u8 {
     if i < path.len() {
         return path[i];
     }
-    if i == path.len() {
-        return b'.';
+    let behind = i - path.len();
+    match behind {
+        0 => b'.',
+        1 => figure(n / 100000),
+        2 => figure(n / 10000),
+        3 => figure(n / 1000),
+        4 => figure(n / 100),
+        5 => figure(n / 10),
+        _ => figure(n),
     }
-    b'X'
 }
 
-// The first `length` characters of the new file's name.
-fn new_name(path: &[u8], length: usize) -> [u8; PATH_MAX]
+// The last figure of a number.
+fn figure(n: usize) -> u8 {
+    b'0' + (n % 10) as u8
+}
+
+// The first `length` characters of the new file's name, with a number.
+fn new_name(path: &[u8], length: usize, n: usize) -> [u8; PATH_MAX]
     requires { length ≤ 4096 }
 {
     let mut name = [0u8; PATH_MAX];
     let mut i: usize = 0;
     while i < length {
-        name[i] = name_byte(path, i);
+        name[i] = name_byte(path, i, n);
         i += 1;
     }
     name
 }
 
-// Writes all bytes, waits until they have reached the disk, and closes the file.
-fn is_written(fd: i32, bytes: &[u8]) -> bool {
-    let written = io::write_all(fd, bytes);
-    if !written {
-        return false;
-    }
-    if libc::fsync(fd) < 0 {
-        return false;
-    }
-    libc::close(fd) == 0
+// Writes all bytes, and waits until they have reached the disk.
+fn is_written<F: Write + OpenFile>(file: &mut F, bytes: &[u8]) -> io::Result<()> {
+    file.set_permissions(Permissions::from_mode(0o644))?; // as other files are: a record is there to be read
+    file.write_all(bytes)?;
+    file.sync_all()
 }
 
-// Writes the new file and gives it the name; what fails leaves no new file behind.
-fn replace(fd: i32, new: &[u8], path: &[u8], bytes: &[u8]) -> bool {
-    libc::fchmod(fd, 0o644); // as other files are: a record is there to be read
-    if !is_written(fd, bytes) {
-        failed(b"cannot write ", path);
-        libc::close(fd);
-        os::unlink(new);
-        return false;
-    }
-    if os::rename(new, path) < 0 {
-        failed(b"cannot write ", path);
-        os::unlink(new);
-        return false;
-    }
-    true
+// Makes a new file, under a name that no other file has.
+fn create_new<R: Files>(rt: &R, name: &[u8]) -> io::Result<R::File> {
+    let mut how = OpenOptions::new();
+    how.read(true).write(true).create_new(true).mode(0o600);
+    opened(rt, &how, name)
 }
 
-// Writes the new file, under a name that the system completes, and has it take the path's place.
-fn save_as(new: &mut [u8], path: &[u8], bytes: &[u8]) -> bool {
-    let fd = os::create_temp(new);
-    if fd < 0 {
-        failed(b"cannot write ", path);
-        return false;
+// Makes the new file beside the path, under the first of its names that is free; answers the name in its memory.
+fn created<R: Files>(
+    rt: &R,
+    path: &[u8],
+    length: usize,
+    name: &mut [u8; PATH_MAX],
+) -> io::Result<R::File>
+    requires { length ≤ 4096 }
+{
+    for n in 0..NUMBERS {
+        let next = new_name(path, length, n);
+        *name = next;
+        match create_new(rt, &next[..length]) {
+            Ok(file) => return Ok(file),
+            Err(error) => match error.kind() {
+                ErrorKind::AlreadyExists => {}
+                _ => return Err(error),
+            },
+        }
     }
-    replace(fd, new, path, bytes)
+    Err(Error::from(ErrorKind::AlreadyExists))
+}
+
+// Writes the new file and gives it the path's name.
+fn replace<R: Files>(
+    rt: &R,
+    file: R::File,
+    new: &[u8],
+    path: &[u8],
+    bytes: &[u8],
+) -> io::Result<()> {
+    let mut file = file;
+    is_written(&mut file, bytes)?;
+    drop(file);
+    fs::rename(rt, name_of(new)?, name_of(path)?)
+}
+
+// Removes the new file, where its bytes did not reach the disk or it did not get the name.
+fn removed<R: Files>(rt: &R, new: &[u8]) -> io::Result<()> {
+    fs::remove_file(rt, name_of(new)?)
+}
+
+// Writes the new file and has it take the path's place; what fails leaves no new file behind.
+fn save_as<R: Files>(
+    rt: &R,
+    file: R::File,
+    new: &[u8],
+    path: &[u8],
+    bytes: &[u8],
+) -> io::Result<()> {
+    match replace(rt, file, new, path, bytes) {
+        Ok(()) => Ok(()),
+        Err(error) => match removed(rt, new) {
+            Ok(()) => Err(error),
+            Err(_) => Err(error),
+        },
+    }
+}
+
+// Saves bytes under a name that is not too long.
+fn saved<R: Files>(rt: &R, path: &[u8], length: usize, bytes: &[u8]) -> io::Result<()>
+    requires { length ≤ 4096 }
+{
+    let mut name = [0u8; PATH_MAX];
+    let file = created(rt, path, length, &mut name)?;
+    save_as(rt, file, &name[..length], path, bytes)
+}
+
+// What became of a save, in words where it failed.
+fn told(path: &[u8], saved: io::Result<()>) -> bool {
+    match saved {
+        Ok(()) => true,
+        Err(error) => {
+            failed(b"cannot write ", path, &error);
+            false
+        }
+    }
 }
 
 // Saves bytes under a name: they are written to a new file beside it, which then takes its place. Until then an earlier
 // file of that name stays whole. The disk decides what is answered, but that a name that is too long is refused.
-pub fn save(path: &[u8], bytes: &[u8]) -> bool
+pub fn save<R: Files>(rt: &R, path: &[u8], bytes: &[u8]) -> bool
     ensures { name_bytes < length path.now → result ≡ false }
 {
-    if !is_replaceable(path) {
-        failed(b"cannot write ", path);
+    if !told(path, is_replaceable(rt, path)) {
         return false;
     }
     if path.len() > 4000 {
         say(b"cannot write: the name is too long\n");
         return false;
     }
-    let length = path.len() + 7;
-    let mut name = new_name(path, length);
-    save_as(&mut name[0..length], path, bytes)
+    let length = path.len() + NUMBERED;
+    told(path, saved(rt, path, length, bytes))
 }

@@ -16,6 +16,7 @@ use print::say;
 use print::words::{explain, explain_line};
 use puzzle::byte_at;
 use reopen::reopen;
+use std::rt::Files;
 use sudoku::CELLS;
 use texts::grids::cells;
 use texts::part;
@@ -150,7 +151,8 @@ fn load_file(
 }
 
 // What a file holds, with a solution.
-fn load_with(
+fn load_with<R: Files>(
+    rt: &R,
     path: &[u8],
     right: &[u8; 81],
     journal: &mut [u8; JOURNAL_BYTES],
@@ -159,7 +161,7 @@ fn load_with(
     ensures { FileLoaded right.now journal.old checks.old (left result journal.new checks.new) }
 {
     let mut file = [0u8; FILE_BYTES];
-    let got = read(path, &mut file);
+    let got = read(rt, path, &mut file);
     if !got.good {
         return nothing();
     }
@@ -167,7 +169,8 @@ fn load_with(
 }
 
 // A record or a puzzle with the solution of a second file, or with the one at hand where no second file is named.
-pub fn load(
+pub fn load<R: Files>(
+    rt: &R,
     path: &[u8],
     solution: &[u8],
     at_hand: &[u8; 81],
@@ -177,13 +180,13 @@ pub fn load(
     ensures { FilesLoaded solution.now at_hand.now journal.old checks.old (left result journal.new checks.new) }
 {
     if solution.len() == 0 {
-        return load_with(path, at_hand, journal, checks);
+        return load_with(rt, path, at_hand, journal, checks);
     }
-    let found = read_cells(solution);
+    let found = read_cells(rt, solution);
     if found.count != CELLS {
         return nothing();
     }
-    load_with(path, &found.cells, journal, checks)
+    load_with(rt, path, &found.cells, journal, checks)
 }
 
 // Opens givens in memory of its own.
