@@ -26,6 +26,7 @@ use readings::read::reading;
 use record::RECORD_BYTES;
 use record::write::write;
 use sudoku::cell_of;
+use std::rt::Files;
 use texts::commands::{NO_NUMBER, value};
 use texts::{Command, part};
 use undo::{redo, undo};
@@ -306,8 +307,8 @@ fn read_move(
 }
 
 // Saves the first bytes of a record.
-fn keep(path: &[u8], record: &[u8; RECORD_BYTES], length: usize) {
-    if save(path, part(record, 0, length)) {
+fn keep<R: Files>(rt: &R, path: &[u8], record: &[u8; RECORD_BYTES], length: usize) {
+    if save(rt, path, part(record, 0, length)) {
         say(b"saved in ");
         shown(path);
         say(b", ");
@@ -316,7 +317,8 @@ fn keep(path: &[u8], record: &[u8; RECORD_BYTES], length: usize) {
     }
 }
 
-fn save_command(
+fn save_command<R: Files>(
+    rt: &R,
     line: &[u8],
     command: Command,
     board: Board,
@@ -335,7 +337,7 @@ fn save_command(
         return;
     }
     let name = command.first;
-    keep(part(line, name.start, name.end), &out, written.length);
+    keep(rt, part(line, name.start, name.end), &out, written.length);
 }
 
 // The board that was opened, drawn; where none was, the one that is played.
@@ -350,7 +352,8 @@ fn taken_up(loaded: Loaded, board: Board, coloured: bool) -> Board
     opened
 }
 
-fn open_command(
+fn open_command<R: Files>(
+    rt: &R,
     line: &[u8],
     command: Command,
     board: Board,
@@ -372,7 +375,7 @@ fn open_command(
     let second = command.second;
     let path = part(line, first.start, first.end);
     let solution = part(line, second.start, second.end);
-    let loaded = load(path, solution, &board.solution, journal, checks);
+    let loaded = load(rt, path, solution, &board.solution, journal, checks);
     taken_up(loaded, board, coloured)
 }
 
@@ -439,7 +442,8 @@ fn show_command(
 }
 
 // A command performed; the board afterwards.
-pub fn perform(
+pub fn perform<R: Files>(
+    rt: &R,
     line: &[u8],
     command: Command,
     board: Board,
@@ -454,10 +458,10 @@ pub fn perform(
         b'p' | b'm' | b's' | b'e' => move_command(line, command, board, journal, coloured),
         b'u' | b'r' => undo_command(command, board, journal, coloured),
         b'c' => check_command(line, command, board, checks, coloured),
-        b'o' => open_command(line, command, board, journal, checks, coloured),
+        b'o' => open_command(rt, line, command, board, journal, checks, coloured),
         b'z' => puzzle_command(line, command, board, journal, checks, coloured),
         b'w' => {
-            save_command(line, command, board, journal, checks);
+            save_command(rt, line, command, board, journal, checks);
             board
         }
         b'\n' => board,

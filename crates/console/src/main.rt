@@ -1,6 +1,6 @@
 // Plays a board in a terminal.
 #![tactic(auto)]
 
-fn main() {
-    terminal::run();
+fn main(rt: HostRuntime) {
+    terminal::run(&rt);
 }

@@ -1,6 +1,6 @@
 // The console, started with a puzzle file and a solution file, on lines of any length and bytes of any kind.
 #![tactic(auto)]
 
-fn main() {
-    terminal::run();
+fn main(rt: HostRuntime) {
+    terminal::run(&rt);
 }

@@ -2,6 +2,6 @@
 // that cannot be read or written.
 #![tactic(auto)]
 
-fn main() {
-    terminal::run();
+fn main(rt: HostRuntime) {
+    terminal::run(&rt);
 }

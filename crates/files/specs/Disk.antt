@@ -11,6 +11,10 @@ use Rattle.files.specs.declared.Got.{Got}
 abbrev pub file_bytes : ℕ
 file_bytes = 8192
 
+-- bytes of the memory that a name is held in
+abbrev pub path_max : ℕ
+path_max = 4096
+
 -- the most bytes of a name under which something is saved
 abbrev pub name_bytes : ℕ
 name_bytes = 4000

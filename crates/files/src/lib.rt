@@ -5,6 +5,7 @@
 
 use board::Board;
 
+pub mod arguments;
 pub mod disk;
 pub mod load;
 

@@ -1,6 +1,6 @@
 // Lays out a record with its solution: the puzzle, every move and check, the final board.
 #![tactic(auto)]
 
-fn main() {
-    report::run();
+fn main(rt: HostRuntime) {
+    report::run(&rt);
 }

@@ -1,6 +1,6 @@
 // The referee, run for the reading of one move.
 #![tactic(auto)]
 
-fn main() {
-    report::run();
+fn main(rt: HostRuntime) {
+    report::run(&rt);
 }

@@ -1,6 +1,6 @@
 // The referee, run on a record that does not reopen.
 #![tactic(auto)]
 
-fn main() {
-    report::run();
+fn main(rt: HostRuntime) {
+    report::run(&rt);
 }

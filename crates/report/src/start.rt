@@ -2,12 +2,14 @@
 use crate::story::{one_move, whole};
 use board::open::zero_board;
 use files::Loaded;
-use files::disk::{FILE_BYTES, read, read_cells};
+use files::arguments::{argument, count};
+use files::disk::{FILE_BYTES, PATH_MAX, read, read_cells};
 use journal::{CHECK_MEMORY, JOURNAL_BYTES};
-use libc::PATH_MAX;
 use print::say;
 use print::words::explain;
 use reopen::reopen;
+use std::env::Env;
+use std::rt::Files;
 use sudoku::CELLS;
 use texts::commands::{NO_NUMBER, value};
 use texts::{Word, part};
@@ -56,14 +58,15 @@ fn reopened_bytes(
 }
 
 // The record in a file.
-fn reopened_file(
+fn reopened_file<R: Files>(
+    rt: &R,
     path: &[u8],
     right: &[u8; 81],
     journal: &mut [u8; JOURNAL_BYTES],
     checks: &mut [u8; CHECK_MEMORY],
 ) -> Loaded {
     let mut file = [0u8; FILE_BYTES];
-    let got = read(path, &mut file);
+    let got = read(rt, path, &mut file);
     if got.good {
         return reopened_bytes(&file, got.length, right, journal, checks);
     }
@@ -74,10 +77,10 @@ fn reopened_file(
 }
 
 // The record judged: whole, or one move of it where k is a number.
-fn judge(path: &[u8], right: &[u8; 81], k: usize) {
+fn judge<R: Files>(rt: &R, path: &[u8], right: &[u8; 81], k: usize) {
     let mut journal = [0u8; JOURNAL_BYTES];
     let mut checks = [0u8; CHECK_MEMORY];
-    let loaded = reopened_file(path, right, &mut journal, &mut checks);
+    let loaded = reopened_file(rt, path, right, &mut journal, &mut checks);
     if !loaded.good {
         return;
     }
@@ -90,27 +93,27 @@ fn judge(path: &[u8], right: &[u8; 81], k: usize) {
 }
 
 // The record of the first word of the command line, with a solution.
-fn judge_first(right: &[u8; 81], k: usize) {
-    let mut path = io::buffer();
-    let length = os::arg(1, &mut path);
+fn judge_first<R: Files + Env>(rt: &R, right: &[u8; 81], k: usize) {
+    let mut path = [0u8; PATH_MAX];
+    let length = argument(rt, 1, &mut path);
     if length == 0 {
         say(b"the name of the record is empty or too long\n");
         return;
     }
-    judge(&path[..length], right, k);
+    judge(rt, &path[..length], right, k);
 }
 
 // With the solution in the file of the second word.
-fn with_solution(k: usize) {
-    let mut path = io::buffer();
-    let length = os::arg(2, &mut path);
+fn with_solution<R: Files + Env>(rt: &R, k: usize) {
+    let mut path = [0u8; PATH_MAX];
+    let length = argument(rt, 2, &mut path);
     if length == 0 {
         say(b"the name of the solution is empty or too long\n");
         return;
     }
-    let found = read_cells(&path[..length]);
+    let found = read_cells(rt, &path[..length]);
     if found.count == CELLS {
-        judge_first(&found.cells, k);
+        judge_first(rt, &found.cells, k);
     }
 }
 
@@ -126,23 +129,23 @@ fn number_in(text: &[u8; PATH_MAX], length: usize) -> usize {
 }
 
 // One move, whose number is the third word.
-fn with_number() {
-    let mut text = io::buffer();
-    let length = os::arg(3, &mut text);
+fn with_number<R: Files + Env>(rt: &R) {
+    let mut text = [0u8; PATH_MAX];
+    let length = argument(rt, 3, &mut text);
     let k = number_in(&text, length);
     if k == NO_NUMBER {
         say(b"the third word is to be the number of a move\n");
         return;
     }
-    with_solution(k);
+    with_solution(rt, k);
 }
 
 // The referee.
-pub fn run() {
-    let words = os::arg_count();
+pub fn run<R: Files + Env>(rt: &R) {
+    let words = count(rt);
     match words {
-        3 => with_solution(NO_NUMBER),
-        4 => with_number(),
+        3 => with_solution(rt, NO_NUMBER),
+        4 => with_number(rt),
         _ => usage(),
     }
 }

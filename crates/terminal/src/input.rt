@@ -1,12 +1,13 @@
 // Lines of any length, of bytes of any kind, from standard input.
-ghost use Rattle.std.specs.Prelude.{◌≡◌, ◌+◌, ◌≤◌};
+ghost use Rattle.std.specs.Prelude.{◌≡◌, ◌+◌, ◌≤◌, length};
 ghost use Rattle.terminal.specs.Input.{taken_at, ByteTaken, line_bytes, kept, with_byte, LineRead};
 
 use crate::{Byte, Line};
-use libc::STDIN_FILENO;
 use puzzle::byte_at;
+use std::HostRuntime;
+use std::io::Read;
 
-// Bytes of input that are read at once: a buffer of crate io.
+// Bytes of input that are read at once.
 pub const INPUT_BYTES: usize = 4096;
 // The most bytes of a line that is taken.
 pub const LINE_BYTES: usize = 256;
@@ -31,15 +32,25 @@ fn taken(buffer: &[u8; INPUT_BYTES], at: usize, end: usize) -> Byte
     }
 }
 
+// Reads what the input has, and answers how many bytes came: none where it ended or cannot be read.
+fn read_anew(rt: &HostRuntime, buffer: &mut [u8; INPUT_BYTES]) -> usize
+    ensures { result ≤ length buffer.new }
+{
+    let mut input = rt.stdin();
+    match input.read(buffer) {
+        Ok(came) => came,
+        Err(_) => 0,
+    }
+}
+
 // The next byte of the input, read anew where all that were read are used.
-fn next_byte(buffer: &mut [u8; INPUT_BYTES], at: usize, end: usize) -> Byte
+fn next_byte(rt: &HostRuntime, buffer: &mut [u8; INPUT_BYTES], at: usize, end: usize) -> Byte
     ensures { ByteTaken buffer.old at end buffer.new result }
 {
     if at < end {
         return taken(buffer, at, end);
     }
-    let got = libc::read(STDIN_FILENO, buffer);
-    let more = io::count(got, buffer);
+    let more = read_anew(rt, buffer);
     taken(buffer, 0, more)
 }
 
@@ -68,6 +79,7 @@ fn line_of(b: Byte, length: usize, ended: bool) -> Line
 // The next line. A proved loop has to end, and nothing says that a line does, so the loop counts its turns down from a
 // number that no line uses up.
 pub fn read_line(
+    rt: &HostRuntime,
     buffer: &mut [u8; INPUT_BYTES],
     at: usize,
     end: usize,
@@ -84,7 +96,7 @@ pub fn read_line(
         ended: false,
     };
     while turns > 0 {
-        b = next_byte(buffer, b.at, b.end);
+        b = next_byte(rt, buffer, b.at, b.end);
         if b.ended {
             return line_of(b, n, n == 0);
         }

@@ -4,12 +4,15 @@ use crate::{Args, Line, Table};
 use board::Board;
 use commands::perform::perform;
 use files::Loaded;
+use files::arguments::{argument, count};
+use files::disk::PATH_MAX;
 use files::load::{load, open_bytes};
 use journal::{CHECK_MEMORY, JOURNAL_BYTES};
-use libc::{PATH_MAX, STDIN_FILENO, STDOUT_FILENO};
 use print::drawing::whole;
 use print::{say, shown};
 use puzzle::byte_at;
+use std::HostRuntime;
+use std::io::IsTerminal;
 use texts::commands::{same, taken_apart};
 use texts::grids::cells;
 use texts::{Command, part};
@@ -79,13 +82,14 @@ fn with_name(
 
 // Word i of the command line taken in.
 fn with_word(
+    rt: &HostRuntime,
     so_far: Args,
     i: usize,
     first: &mut [u8; PATH_MAX],
     second: &mut [u8; PATH_MAX],
 ) -> Args {
-    let mut word = io::buffer();
-    let length = os::arg(i, &mut word);
+    let mut word = [0u8; PATH_MAX];
+    let length = argument(rt, i, &mut word);
     let kind = kind_of(&word[..length]);
     let mut next = so_far;
     match kind {
@@ -102,26 +106,26 @@ fn with_word(
 }
 
 // The whole command line.
-fn arguments(first: &mut [u8; PATH_MAX], second: &mut [u8; PATH_MAX]) -> Args {
+fn arguments(rt: &HostRuntime, first: &mut [u8; PATH_MAX], second: &mut [u8; PATH_MAX]) -> Args {
     let mut so_far = Args {
         first: 0,
         second: 0,
         colour: 0,
         wrong: false,
     };
-    let count = os::arg_count();
+    let words = count(rt);
     let mut i: usize = 1;
-    while i < count {
-        let next = with_word(so_far, i, first, second);
+    while i < words {
+        let next = with_word(rt, so_far, i, first, second);
         so_far = next;
         i += 1;
     }
     so_far
 }
 
-fn is_coloured(colour: u8) -> bool {
+fn is_coloured(rt: &HostRuntime, colour: u8) -> bool {
     match colour {
-        0 => libc::isatty(STDOUT_FILENO) == 1,
+        0 => rt.stdout().is_terminal(),
         1 => true,
         _ => false,
     }
@@ -136,6 +140,7 @@ fn is_quit(command: Command) -> bool {
 
 // A line that was read, taken apart and performed.
 fn obey(
+    rt: &HostRuntime,
     table: Table,
     text: &[u8],
     journal: &mut [u8; JOURNAL_BYTES],
@@ -152,13 +157,14 @@ fn obey(
         return next;
     }
     let board = table.board;
-    let after = perform(text, command, board, journal, checks, table.coloured);
+    let after = perform(rt, text, command, board, journal, checks, table.coloured);
     next.board = after;
     next
 }
 
 // What came instead of a line, or the line.
 fn answer(
+    rt: &HostRuntime,
     table: Table,
     got: Line,
     line: &[u8; LINE_BYTES],
@@ -177,11 +183,12 @@ fn answer(
         say(b"that line has more than 256 characters, and is not taken\n");
         return next;
     }
-    obey(next, part(line, 0, got.length), journal, checks)
+    obey(rt, next, part(line, 0, got.length), journal, checks)
 }
 
 // One line: read and answered.
 fn turn(
+    rt: &HostRuntime,
     table: Table,
     journal: &mut [u8; JOURNAL_BYTES],
     checks: &mut [u8; CHECK_MEMORY],
@@ -189,29 +196,30 @@ fn turn(
 ) -> Table {
     say(b"> ");
     let mut line = [0u8; LINE_BYTES];
-    let got = read_line(buffer, table.at, table.end, &mut line);
-    answer(table, got, &line, journal, checks)
+    let got = read_line(rt, buffer, table.at, table.end, &mut line);
+    answer(rt, table, got, &line, journal, checks)
 }
 
 // Line after line, until the game is left or the input ends. The turns count down from a number that no game uses up.
 fn session(
+    rt: &HostRuntime,
     board: Board,
     journal: &mut [u8; JOURNAL_BYTES],
     checks: &mut [u8; CHECK_MEMORY],
     coloured: bool,
 ) {
-    let mut buffer = io::buffer();
+    let mut buffer = [0u8; INPUT_BYTES];
     let mut table = Table {
         board: board,
         at: 0,
         end: 0,
         coloured: coloured,
-        echo: libc::isatty(STDIN_FILENO) != 1,
+        echo: !rt.stdin().is_terminal(),
         over: false,
     };
     let mut turns = u64::MAX;
     while turns > 0 {
-        let next = turn(table, journal, checks, &mut buffer);
+        let next = turn(rt, table, journal, checks, &mut buffer);
         if next.over {
             return;
         }
@@ -222,6 +230,7 @@ fn session(
 
 // The board to start with: the one that the command line names, or the one that is built in.
 fn first_board(
+    rt: &HostRuntime,
     args: Args,
     first: &[u8; PATH_MAX],
     second: &[u8; PATH_MAX],
@@ -237,32 +246,32 @@ fn first_board(
     let right = built_in_solution();
     let path = part(first, 0, args.first);
     let solution = part(second, 0, args.second);
-    load(path, solution, &right, journal, checks)
+    load(rt, path, solution, &right, journal, checks)
 }
 
 // The game, where the board to start with opens.
-fn begin(args: Args, first: &[u8; PATH_MAX], second: &[u8; PATH_MAX]) {
+fn begin(rt: &HostRuntime, args: Args, first: &[u8; PATH_MAX], second: &[u8; PATH_MAX]) {
     let mut journal = [0u8; JOURNAL_BYTES];
     let mut checks = [0u8; CHECK_MEMORY];
-    let loaded = first_board(args, first, second, &mut journal, &mut checks);
+    let loaded = first_board(rt, args, first, second, &mut journal, &mut checks);
     if !loaded.good {
         return;
     }
     let board = loaded.board;
-    let coloured = is_coloured(args.colour);
+    let coloured = is_coloured(rt, args.colour);
     say(b"pawdoku: type a command, as place 1 3 4, or help\n");
     whole(board, coloured);
-    session(board, &mut journal, &mut checks, coloured);
+    session(rt, board, &mut journal, &mut checks, coloured);
 }
 
 // The console.
-pub fn run() {
-    let mut first = io::buffer();
-    let mut second = io::buffer();
-    let args = arguments(&mut first, &mut second);
+pub fn run(rt: &HostRuntime) {
+    let mut first = [0u8; PATH_MAX];
+    let mut second = [0u8; PATH_MAX];
+    let args = arguments(rt, &mut first, &mut second);
     if args.wrong {
         say(b"console [--colour | --plain] [RECORD [SOLUTION] | PUZZLE SOLUTION]\n");
         return;
     }
-    begin(args, &first, &second);
+    begin(rt, args, &first, &second);
 }

@@ -1,0 +1,37 @@
+// The words of the command line, as bytes of any kind.
+ghost use Rattle.std.specs.Prelude.{◌≤◌};
+ghost use Rattle.files.specs.Disk.{path_max};
+
+use crate::disk::PATH_MAX;
+use std::env::{Env, FillError};
+
+// Word i, laid at the start of the memory: how long it is, 0 where there is none or where it finds no room.
+pub fn argument<R: Env>(rt: &R, i: usize, memory: &mut [u8; PATH_MAX]) -> usize
+    ensures { result ≤ path_max }
+{
+    match rt.arg(i, memory) {
+        Ok(length) => within(length),
+        Err(_) => 0,
+    }
+}
+
+// A length that the memory has room for.
+fn within(length: usize) -> usize
+    ensures { result ≤ path_max }
+{
+    if length > PATH_MAX {
+        return PATH_MAX;
+    }
+    length
+}
+
+// How many words there are, the program's name among them.
+pub fn count<R: Env>(rt: &R) -> usize {
+    let mut none = [0u8; 1];
+    for i in 0..usize::MAX {
+        if let Err(FillError::NotPresent) = rt.arg(i, &mut none) {
+            return i;
+        }
+    }
+    usize::MAX
+}
