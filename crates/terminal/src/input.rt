@@ -4,7 +4,6 @@ ghost use Rattle.terminal.specs.Input.{taken_at, ByteTaken, line_bytes, kept, wi
 
 use crate::{Byte, Line};
 use puzzle::byte_at;
-use std::HostRuntime;
 use std::io::Read;
 
 // Bytes of input that are read at once.

@@ -11,7 +11,6 @@ use journal::{CHECK_MEMORY, JOURNAL_BYTES};
 use print::drawing::whole;
 use print::{say, shown};
 use puzzle::byte_at;
-use std::HostRuntime;
 use std::io::IsTerminal;
 use texts::commands::{same, taken_apart};
 use texts::grids::cells;
