@@ -219,13 +219,13 @@ demand3 =
       opens = opens_exactly;
       opened = opened;
       played = played;
-      played-on =
+      played_on =
           λ givens solution calls more journal checks o j c.
           plays_on (keep (new_book givens solution) calls) solution journal checks more (good_keep (new_book givens solution) calls (good_new givens solution o))
           (sym (same_solution givens solution calls)) j c;
       reached_fresh = reached_fresh;
       reached_calls = reached_calls;
-      reached-reopened =
+      reached_reopened =
           λ bytes solution journal checks are h.
           reached_record bytes solution are (was_accepted bytes solution journal checks h) journal checks (was_lent bytes solution journal checks h).0
           (was_lent bytes solution journal checks h).1;

@@ -150,14 +150,14 @@ module _ (givens : List Given) (solution : List ℕ) (o : Opens givens solution)
   is_then : is_board (after (started (opened_fresh givens solution)) calls).board ≡ true
   is_then = ap is_board board_then ∙ good_board book good
 
-read-written :
+read_written :
     (line room solution journal checks : List ℕ) (calls : List Call) (output : List ℕ)
     → (read_line_of line room).answer.refusal ≡ accepted
     → (open_of (bytes_in (read_line_of line room)) solution journal checks).answer.refusal ≡ accepted
     → line_bytes ≤ length output
     → write_line_of (after (started (open_of (bytes_in (read_line_of line room)) solution journal checks)) calls).board output
     ≡ wrote accepted line_bytes (over output 0 (dotted_line line))
-read-written line room solution journal checks calls output h q fits =
+read_written line room solution journal checks calls output h q fits =
     ap (λ (o : Opened). write_line_of (after (started o) calls).board output) fresh
     ∙ writes board (is_then givens solution opens calls) output fits
     ∙ ap (λ (l : List ℕ). wrote accepted line_bytes (over output 0 l)) (line_again line (was_line line room h) board (givens_then givens solution opens calls))
@@ -177,7 +177,7 @@ read-written line room solution journal checks calls output h q fits =
     board : Board
     board = (after (started (opened_fresh (line_givens line) solution)) calls).board
 
-opened-read :
+opened_read :
     (givens solution journal checks output room : List ℕ)
     → (open_of givens solution journal checks).answer.refusal ≡ accepted
     → line_bytes ≤ length output
@@ -185,7 +185,7 @@ opened-read :
     → read_line_of (bytes_in (write_line_of (open_of givens solution journal checks).answer.board output)) room
     ≡ wrote accepted (length givens) (over room 0 givens)
 unfolding after started
-opened-read givens solution journal checks output room q fits enough =
+opened_read givens solution journal checks output room q fits enough =
     ap (λ (o : Opened). read_line_of (bytes_in (write_line_of o.answer.board output)) room) (opened givens solution journal checks openable)
     ∙ (subst (λ (gs : List Given). Yields (bytes_in (write_line_of board output)) gs) (givens_then (triples givens) solution openable.opens [])
     (written_read board (is_then (triples givens) solution openable.opens []) output fits)).read room enough
@@ -211,11 +211,11 @@ pub line_theorem : LineTheorem
 line_theorem =
     record {
       written_read = λ b output t room. written_read b t output room;
-      read-written = read-written;
+      read_written = read_written;
       ascends = line_ascends;
       read_refused = read_refused;
       write_refused = write_refused;
       reached = of_reached;
-      opened = opened-read;
+      opened = opened_read;
       rows = line_rows;
     }

@@ -77,7 +77,7 @@ pub record Kept (s : Session) (k : Book) : Type 0 where
       → reopen_of (record_in k) k.solution journal checks ≡ reopened_book k
 
 -- a session that holds the book of some calls, from givens that open: what calls reach from the fresh board or
--- from a reopened one, and so on (`reached_fresh`, `reached_calls` and `reached-reopened` below)
+-- from a reopened one, and so on (`reached_fresh`, `reached_calls` and `reached_reopened` below)
 pub record Reached (s : Session) : Type 0 where
   pub givens : List Given
   pub solution : List ℕ
@@ -127,7 +127,7 @@ pub record Demand3 : Type 0 where
       → Opens givens solution
       → PlaysAs (started (opened_fresh givens solution)) (new_book givens solution) calls
   -- from the reopened board and memory any other calls go on where the first left the book
-  pub played-on :
+  pub played_on :
       (givens : List Given) (solution : List ℕ) (calls more : List Call) (journal checks : List ℕ)
       → Opens givens solution
       → length journal ≡ journal_bytes
@@ -138,7 +138,7 @@ pub record Demand3 : Type 0 where
       → Opens givens solution
       → Reached (started (opened_fresh givens solution))
   pub reached_calls : (s : Session) (calls : List Call) → Reached s → Reached (after s calls)
-  pub reached-reopened :
+  pub reached_reopened :
       (bytes solution journal checks : List ℕ)
       → AreBytes bytes
       → (reopen_of bytes solution journal checks).answer.refusal ≡ accepted

@@ -85,7 +85,7 @@ pub record LineTheorem : Type 0 where
       → is_board b ≡ true
       → line_bytes ≤ length output
       → Yields (bytes_in (write_line_of b output)) (givens_of b)
-  pub read-written :
+  pub read_written :
       (line room solution journal checks : List ℕ) (calls : List Call) (output : List ℕ)
       → (read_line_of line room).answer.refusal ≡ accepted
       → (open_of (bytes_in (read_line_of line room)) solution journal checks).answer.refusal ≡ accepted

@@ -152,12 +152,12 @@ module _ (b : Board) (checks : List ℕ) (row column n : ℕ) (e : n ≡ first (
       ap (λ (k : ℕ). checked (refusal k 0 0) false b checks) e
       ∙ sym (pick_false _ _ _ (ne_eqb (first (check_tests b checks row column)) 0 (λ p. h (e ∙ p))))
 
-  pub check-made :
+  pub check_made :
       n ≡ 0
       → checked accepted (check_on b row column).right (with_check b) (over checks (check_bytes * b.checks) (stored_bytes (check_on b row column)))
       ≡ check_of b checks row column
   unfolding check_of
-  check-made p = sym (pick_true _ _ _ (eq-eqb (first (check_tests b checks row column)) 0 (sym e ∙ p)))
+  check_made p = sym (pick_true _ _ _ (eq-eqb (first (check_tests b checks row column)) 0 (sym e ∙ p)))
 
   -- an accepted check has room: the memory has its length, and fewer checks than it holds are stored
   pub check_room : n ≡ 0 → (length checks ≡ check_memory) × (b.checks < max_checks)

@@ -1,7 +1,6 @@
 -- `note::contains` meets its contract: what the note has in common
 -- with the mark's value is not 0 exactly where the mark is written.
 -- Assumes nothing.
-use borrow.Author.Rules.{rules}
 use Rattle.note.proofs.Note.{power_tests}
 use Rattle.note.proofs.contains.Goals as goal
 

@@ -1,6 +1,5 @@
 -- `note::is_empty` meets its contract: no mark is written where none is counted.
 -- Assumes nothing.
-use borrow.Author.Rules.{rules}
 use Rattle.note.specs.Note.{is_empty}
 use Rattle.note.proofs.is_empty.Goals as goal
 

@@ -3,7 +3,6 @@
 use Prim.Native.Nat.{ℕ, ◌+◌, ◌/◌, ◌%◌}
 use mathlib.Core.Path.{◌≡◌, refl}
 use native.Mathlib.Omega.{arith}
-use borrow.Author.Rules.{rules}
 use Rattle.sudoku.specs.Tests.{both, count}
 use Rattle.sudoku.specs.Grid.{in_range}
 use Rattle.note.specs.Note.{len_of}

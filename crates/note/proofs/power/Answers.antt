@@ -1,12 +1,9 @@
 -- `note::power` meets its contract: 1 shifted by a digit is a power of two that fits.
 -- Assumes nothing.
-use mathlib.Core.Path.{◌≡◌, sym, ◌∙◌}
-use mathlib.Core.Bool.{true}
+use mathlib.Core.Path.{sym, ◌∙◌}
 use native.Mathlib.Nat.{one-mul}
 use native.Mathlib.Omega.{arith}
 use lib.Pow.{shl_exact}
-use borrow.Author.Rules.{rules}
-use Rattle.sudoku.specs.Grid.{in_range}
 use Rattle.sudoku.proofs.Grid.{range_to}
 use Rattle.note.proofs.Note.{power_digit, power_no_digit}
 use Rattle.note.proofs.power.Goals as goal

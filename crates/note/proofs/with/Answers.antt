@@ -1,6 +1,5 @@
 -- `note::with` meets its contract.
 -- Assumes nothing.
-use borrow.Author.Rules.{rules}
 use Rattle.note.proofs.Note.{or_power}
 use Rattle.note.proofs.with.Goals as goal
 

@@ -1,7 +1,6 @@
 -- `note::without` meets its contract; what is common to the note and the mark's value is no more than the note.
 -- Assumes nothing.
 use lib.Bits.{and_le_l}
-use borrow.Author.Rules.{rules}
 use Rattle.note.proofs.Note.{less_power}
 use Rattle.note.proofs.without.Goals as goal
 

@@ -1,7 +1,6 @@
 -- `sudoku::box_index` meets its contract: line 0 computes, and the others are the definition itself.
 -- Assumes nothing.
 use mathlib.Core.Path.{refl, sym, ap}
-use borrow.Author.Rules.{rules}
 use Rattle.sudoku.specs.Grid.{box_index}
 use Rattle.sudoku.proofs.box_index.Goals as goal
 

@@ -2,7 +2,6 @@
 -- Assumes nothing.
 use mathlib.Core.Path.{sym, ◌∙◌}
 use native.Mathlib.Omega.{arith}
-use borrow.Author.Rules.{rules}
 use Rattle.sudoku.proofs.Grid.{cell_on, cell_off, cell_le, grid_bounds}
 use Rattle.sudoku.proofs.cell_of.Goals as goal
 

@@ -5,7 +5,6 @@ use Prim.Native.Nat.{◌-◌}
 use mathlib.Core.Path.{refl, sym, ap}
 use native.Mathlib.Nat.{mod-lt}
 use native.Mathlib.Omega.{arith}
-use borrow.Author.Rules.{rules}
 use Rattle.sudoku.specs.Grid.{column_of}
 use Rattle.sudoku.proofs.column_of.Goals as goal
 

@@ -1,7 +1,6 @@
 -- `sudoku::on_grid` meets its contract: one test after the other is both at once.
 -- Assumes nothing.
 use mathlib.Core.Path.{sym, ◌∙◌}
-use borrow.Author.Rules.{rules}
 use Rattle.sudoku.specs.Grid.{in_range, on_grid}
 use Rattle.sudoku.proofs.Walks.{both_first, both_false_left}
 use Rattle.sudoku.proofs.on_grid.Goals as goal

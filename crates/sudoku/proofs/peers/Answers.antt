@@ -4,7 +4,6 @@
 use Prim.Native.Nat.{ℕ, ◌-◌, ◌*◌}
 use mathlib.Core.Path.{◌≡◌, refl, sym, ap, ◌∙◌}
 use mathlib.Core.Bool.{true}
-use mathlib.Core.List.{List}
 use lib.ListN.{take, drop}
 use Rattle.sudoku.specs.declared.table.TheConstants.{PEERS}
 use Rattle.sudoku.specs.Tests.{every, among, keep, both, either}

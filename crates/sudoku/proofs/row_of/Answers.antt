@@ -1,7 +1,6 @@
 -- `sudoku::row_of` meets its contract: 0 computes, and the others are the definition itself.
 -- Assumes nothing.
 use mathlib.Core.Path.{refl, sym, ap}
-use borrow.Author.Rules.{rules}
 use Rattle.sudoku.specs.Grid.{row_of}
 use Rattle.sudoku.proofs.row_of.Goals as goal
 

@@ -1,10 +1,8 @@
 -- `sudoku::twenty` meets its contract: the entries passed so far are copied.
 -- Assumes nothing.
-use Prim.Native.Nat.{◌-◌, ◌≤◌}
 use mathlib.Core.Path.{◌≡◌, sym, ◌∙◌}
 use native.Mathlib.Omega.{arith}
 use borrow.Author.Rules.{rules}
-use lib.ListN.{length, take, drop}
 use lib.Seq.{take_all}
 use Rattle.sudoku.proofs.PeerTable.{copied}
 use Rattle.sudoku.proofs.twenty.Goals as goal

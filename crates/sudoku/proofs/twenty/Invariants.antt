@@ -1,12 +1,8 @@
 -- `sudoku::twenty` meets its contract: the entries passed so far are copied.
 -- Assumes nothing.
 use Prim.Native.Nat.{◌-◌, ◌≤◌}
-use mathlib.Core.Path.{◌≡◌, sym, ◌∙◌}
-use native.Mathlib.Omega.{arith}
-use borrow.Author.Rules.{rules}
+use mathlib.Core.Path.{◌≡◌}
 use lib.ListN.{length, take, drop}
-use lib.Seq.{take_all}
-use Rattle.sudoku.proofs.PeerTable.{copied}
 use Rattle.sudoku.proofs.twenty.Given as goal
 
 abbrev pub invariant-loop-i : goal.invariant-loop-i

@@ -7,7 +7,7 @@ use Rattle.journal.specs.StoredChecks.{stored_bytes}
 use Rattle.journal.proofs.Stores.{laid_over}
 use Rattle.board.specs.Board.{state_of, counts_of, board_of}
 use Rattle.play.specs.Check.{CheckPlayed, check_tests, check_on, with_check}
-use Rattle.play.proofs.Accepted.{check_refused, check-made, check_room}
+use Rattle.play.proofs.Accepted.{check_refused, check_made, check_room}
 use borrow.Author.Rules.{rules}
 use Rattle.play.proofs.checks.check.Goals as goal
 
@@ -29,7 +29,7 @@ pub returns : goal.returns
 unfolding check_tests check_on digit_at state_of with_check board_of counts_of stored_bytes
 returns c =
     let a = c.args in
-    let p = check-made a.board a.checks.now a.row a.column _ c.check_number-n.ensures c.if-n-ne0.false in
+    let p = check_made a.board a.checks.now a.row a.column _ c.check_number-n.ensures c.if-n-ne0.false in
     let room = check_room a.board a.checks.now a.row a.column _ c.check_number-n.ensures c.if-n-ne0.false in (
       rw (c.accepted.ensures, c.store_check.ensures.0, c.digit_at.ensures, c.cell_of.ensures.0) (ap (λ (x : CheckPlayed). x.answer) p),
       (rw (c.digit_at.ensures, c.cell_of.ensures.0) at c.store_check.ensures.1) ∙ laid_over _ _ _ (omega (arith, room.0, room.1)) ∙ ap (λ (x : CheckPlayed). x.checks) p,
