@@ -1,7 +1,6 @@
 -- `puzzle::byte_at` meets its contract: past the end of a list its default stands.
 -- Assumes nothing.
 use mathlib.Core.Path.{sym}
-use borrow.Author.Rules.{rules}
 use lib.ListN.{get_or-eq_default}
 use Rattle.puzzle.proofs.byte_at.Goals as goal
 

@@ -1,18 +1,12 @@
 -- `puzzle::cells_holding` meets its contract: what was counted,
 -- and what is left to count from `cell` on, is the whole count.
 -- Assumes nothing.
-use Prim.Native.Nat.{ℕ, ◌≤◌, ◌<◌, ◌+◌, ◌-◌}
-use mathlib.Core.Path.{◌≡◌, sym, ◌∙◌}
-use mathlib.Core.Bool.{Bool}
-use mathlib.Core.List.{List}
-use mathlib.Core.Logic.{⊎_elim}
+use Prim.Native.Nat.{◌<◌}
+use mathlib.Core.Path.{sym, ◌∙◌}
 use native.Mathlib.Nat.{zero-add, add-zero}
 use native.Mathlib.Omega.{arith}
 use borrow.Author.Tests.{eq-eqb, ne_eqb}
-use borrow.Author.Rules.{rules}
-use lib.Dec.{eqb}
 use Rattle.sudoku.specs.Tests.{count}
-use Rattle.sudoku.specs.Grid.{at}
 use Rattle.sudoku.proofs.Walks.{count_more, count_skips, count_all}
 use Rattle.puzzle.proofs.cells_holding.Invariants.{holds}
 use Rattle.puzzle.proofs.cells_holding.Goals as goal

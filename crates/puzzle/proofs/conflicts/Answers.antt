@@ -2,7 +2,6 @@
 -- Assumes nothing.
 use mathlib.Core.Path.{sym, ◌∙◌}
 use borrow.Author.Tests.{eq-eqb, ne_eqb}
-use borrow.Author.Rules.{rules}
 use Rattle.sudoku.specs.Grid.{at, peers_of}
 use Rattle.sudoku.proofs.Walks.{both_first, both_false_left, not_is_true, not_is_false}
 use Rattle.puzzle.specs.Puzzle.{conflicts, holds_digit, is_held}

@@ -1,6 +1,5 @@
 -- `puzzle::digit_at` meets its contract: the entry of the list at the cell.
 -- Assumes nothing.
-use borrow.Author.Rules.{rules}
 use Rattle.sudoku.specs.Grid.{at}
 use Rattle.puzzle.proofs.digit_at.Goals as goal
 

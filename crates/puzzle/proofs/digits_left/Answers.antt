@@ -1,7 +1,6 @@
 -- `puzzle::digits_left` meets its contract: the difference is 0 where more than nine cells hold the digit.
 -- Assumes nothing.
 use native.Mathlib.Omega.{arith}
-use borrow.Author.Rules.{rules}
 use Rattle.puzzle.specs.Puzzle.{digits_left}
 use Rattle.puzzle.proofs.digits_left.Goals as goal
 

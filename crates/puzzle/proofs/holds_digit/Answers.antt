@@ -1,6 +1,5 @@
 -- `puzzle::holds_digit` meets its contract, which is the code.
 -- Assumes nothing.
-use borrow.Author.Rules.{rules}
 use Rattle.puzzle.specs.Puzzle.{holds_digit}
 use Rattle.puzzle.proofs.holds_digit.Goals as goal
 

@@ -2,8 +2,6 @@
 -- other is all three at once, and those say that no cell conflicts.
 -- Assumes nothing.
 use mathlib.Core.Path.{sym, ◌∙◌}
-use borrow.Author.Tests.{not-true, not-false}
-use borrow.Author.Rules.{rules}
 use Rattle.sudoku.proofs.Walks.{both_first, both_false_left}
 use Rattle.puzzle.specs.Code.Units.{columns_clear, reordered, row_order}
 use Rattle.puzzle.proofs.Columns.{units_clear}

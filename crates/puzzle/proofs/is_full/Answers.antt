@@ -1,10 +1,7 @@
 -- `puzzle::is_full` meets its contract: what is left to test from `cell` on decides.
 -- Assumes nothing.
-use Prim.Native.Nat.{◌≤◌, ◌-◌}
-use mathlib.Core.Path.{◌≡◌, refl, sym, ◌∙◌}
+use mathlib.Core.Path.{refl, sym, ◌∙◌}
 use native.Mathlib.Omega.{arith}
-use borrow.Author.Tests.{not-true, not-false}
-use borrow.Author.Rules.{rules}
 use Rattle.sudoku.specs.Tests.{every}
 use Rattle.sudoku.proofs.Walks.{every_more, every_fails, every_all}
 use Rattle.puzzle.specs.Puzzle.{is_full, holds_digit}

@@ -1,13 +1,9 @@
 -- `puzzle::is_held` meets its contract: what is left to test from `i` on decides.
 -- Assumes nothing.
 use Prim.Native.Nat.{◌≤◌, ◌-◌}
-use mathlib.Core.Path.{◌≡◌, refl, sym, ap, ◌∙◌}
-use native.Mathlib.Omega.{arith}
-use borrow.Author.Rules.{rules}
+use mathlib.Core.Path.{◌≡◌}
 use lib.ListN.{drop}
-use Rattle.sudoku.specs.Grid.{at}
 use Rattle.puzzle.specs.Puzzle.{is_held}
-use Rattle.puzzle.proofs.Search.{held_here, held_later, held_nowhere}
 use Rattle.puzzle.proofs.is_held.Given as goal
 
 abbrev pub invariant-loop-i : goal.invariant-loop-i

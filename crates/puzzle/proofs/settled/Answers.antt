@@ -1,8 +1,6 @@
 -- `puzzle::settled` meets its contract: one test after the other.
 -- Assumes nothing.
 use mathlib.Core.Path.{sym, ◌∙◌}
-use borrow.Author.Tests.{not-true, not-false}
-use borrow.Author.Rules.{rules}
 use Rattle.sudoku.proofs.Walks.{pick_true, pick_false, both_true, both_false_left, both_false_right}
 use Rattle.puzzle.specs.Puzzle.{settled, is_full, is_consistent}
 use Rattle.puzzle.proofs.settled.Goals as goal

@@ -3,7 +3,6 @@
 use native.Mathlib.Omega.{arith}
 use Rattle.journal.specs.StoredChecks.{check_start}
 use Rattle.journal.proofs.CheckLaws.{asked_past}
-use borrow.Author.Rules.{rules}
 use Rattle.journal.proofs.checks.check_at.Goals as goal
 
 pub returns-then-index-checks : goal.returns-then-index-checks

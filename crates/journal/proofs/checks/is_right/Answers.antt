@@ -1,7 +1,6 @@
 -- `journal::checks::is_right` meets its contract, which is the code.
 -- Assumes nothing.
 use Rattle.journal.specs.StoredChecks.{is_right}
-use borrow.Author.Rules.{rules}
 use Rattle.journal.proofs.checks.is_right.Goals as goal
 
 pub returns : goal.returns

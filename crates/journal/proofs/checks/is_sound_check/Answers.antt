@@ -1,7 +1,6 @@
 -- `journal::checks::is_sound_check` meets its contract.
 -- Assumes nothing.
 use Rattle.journal.specs.StoredChecks.{is_sound_check}
-use borrow.Author.Rules.{rules}
 use Rattle.journal.proofs.checks.is_sound_check.Goals as goal
 
 pub returns : goal.returns

@@ -1,8 +1,7 @@
 -- `journal::checks::sound_fields` meets its contract.
 -- Assumes nothing.
 use mathlib.Core.Path.{sym, ◌∙◌}
-use borrow.Author.Tests.{not-true, not-false, le-leb, lt-leb}
-use borrow.Author.Rules.{rules}
+use borrow.Author.Tests.{le-leb, lt-leb}
 use Rattle.sudoku.proofs.Walks.{both_first, both_false_left}
 use Rattle.journal.specs.StoredChecks.{sound_stored}
 use Rattle.journal.proofs.checks.sound_fields.Goals as goal

@@ -1,6 +1,5 @@
 -- `journal::checks::store_check` meets its contract.
 -- Assumes nothing.
-use borrow.Author.Rules.{rules}
 use Rattle.journal.proofs.checks.store_check.Goals as goal
 
 pub returns : goal.returns

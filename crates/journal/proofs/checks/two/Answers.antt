@@ -1,6 +1,5 @@
 -- `journal::checks::two` meets its contract: two bytes make a number below 65,536.
 -- Assumes nothing.
-use borrow.Author.Rules.{rules}
 use Rattle.journal.specs.Bytes.{two}
 use Rattle.journal.proofs.checks.two.Goals as goal
 

@@ -1,12 +1,9 @@
 -- `journal::notes::holders` meets its contract. The loop's invariant: the mask is that of the cells from i on.
 -- Assumes nothing.
 use Prim.Native.Nat.{◌≤◌}
-use mathlib.Core.Path.{◌≡◌, sym, ◌∙◌}
-use native.Mathlib.Omega.{arith}
-use borrow.Author.Rules.{rules}
-use lib.ListN.{length, drop}
+use mathlib.Core.Path.{◌≡◌}
+use lib.ListN.{drop}
 use Rattle.journal.specs.State.{holders}
-use Rattle.journal.proofs.CellLoops.{holders_turn, holders_end, holders_fit}
 use Rattle.journal.proofs.notes.holders.Given as goal
 
 abbrev pub invariant-loop-i : goal.invariant-loop-i

@@ -7,7 +7,6 @@ use Rattle.note.specs.Note.{power_of}
 use Rattle.note.proofs.Note.{times_le, power_below}
 use Rattle.journal.specs.State.{lowest}
 use Rattle.journal.proofs.CellLoops.{low_bit, times_bit}
-use borrow.Author.Rules.{rules}
 use Rattle.journal.proofs.notes.mark_if.Goals as goal
 
 pub overflow_mul-result : goal.overflow_mul-result

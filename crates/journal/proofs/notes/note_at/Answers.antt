@@ -2,7 +2,6 @@
 -- Assumes nothing.
 use mathlib.Core.Path.{sym, ap}
 use native.Mathlib.Omega.{arith}
-use borrow.Author.Rules.{rules}
 use lib.ListN.{get_or, get_or-eq_default}
 use Rattle.sudoku.specs.Grid.{at}
 use Rattle.journal.proofs.notes.note_at.Goals as goal

@@ -1,10 +1,8 @@
 -- `journal::notes::strike_all_in` meets its contract. The loop's
 -- invariant: striking at what is left of the cells completes the answer.
 -- Assumes nothing.
-use Prim.Native.Nat.{◌-◌}
 use mathlib.Core.Path.{◌≡◌, refl, sym, ◌∙◌}
-use lib.ListN.{length, drop}
-use Rattle.journal.specs.State.{strike_all}
+use lib.ListN.{length}
 use Rattle.journal.proofs.CellLoops.{strike_all_turn, strike_all_end}
 use borrow.Author.Rules.{rules}
 use Rattle.journal.proofs.notes.strike_all_in.Goals as goal

@@ -2,11 +2,9 @@
 -- invariant: striking at what is left of the cells completes the answer.
 -- Assumes nothing.
 use Prim.Native.Nat.{◌-◌}
-use mathlib.Core.Path.{◌≡◌, refl, sym, ◌∙◌}
-use lib.ListN.{length, drop}
+use mathlib.Core.Path.{◌≡◌}
+use lib.ListN.{drop}
 use Rattle.journal.specs.State.{strike_all}
-use Rattle.journal.proofs.CellLoops.{strike_all_turn, strike_all_end}
-use borrow.Author.Rules.{rules}
 use Rattle.journal.proofs.notes.strike_all_in.Given as goal
 
 abbrev pub invariant-loop-i : goal.invariant-loop-i

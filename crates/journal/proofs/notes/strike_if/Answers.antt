@@ -10,7 +10,6 @@ use lib.Seq.{set_out}
 use Rattle.sudoku.specs.Grid.{at, put}
 use Rattle.journal.specs.State.{strike_at, lowest}
 use Rattle.journal.proofs.CellLoops.{has_past, has_mark, less_mark, set_pick, pick_same}
-use borrow.Author.Rules.{rules}
 use Rattle.journal.proofs.notes.strike_if.Goals as goal
 
 pub returns-then-at-all : goal.returns-then-at-all

@@ -3,13 +3,11 @@
 -- and what was found so far together with what is found there completes the answer.
 -- Assumes nothing.
 use Prim.Native.Nat.{◌-◌}
-use mathlib.Core.Path.{◌≡◌, refl, sym, ◌∙◌}
+use mathlib.Core.Path.{◌≡◌}
 use lib.ListN.{length, drop}
 use Rattle.sudoku.specs.Tests.{both}
-use Rattle.journal.specs.State.{strike_at, strike_masked}
-use Rattle.journal.specs.Code.InTurn.{not_missing, none_missing_in_turn}
-use Rattle.journal.proofs.CellLoops.{in_turn_step, in_turn_end, strike_masked_turn, strike_masked_end}
-use borrow.Author.Rules.{rules}
+use Rattle.journal.specs.State.{strike_masked}
+use Rattle.journal.specs.Code.InTurn.{none_missing_in_turn}
 use Rattle.journal.proofs.notes.strike_masked_in.Given as goal
 
 abbrev pub invariant-loop-i : goal.invariant-loop-i

@@ -2,7 +2,6 @@
 -- Assumes nothing.
 use mathlib.Core.Path.{sym, ap, ◌∙◌}
 use native.Mathlib.Omega.{arith}
-use borrow.Author.Rules.{rules}
 use Rattle.sudoku.specs.Tests.{bit}
 use Rattle.journal.proofs.notes.with_bit.Goals as goal
 

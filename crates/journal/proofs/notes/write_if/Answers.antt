@@ -9,7 +9,6 @@ use lib.Seq.{set_out}
 use Rattle.sudoku.specs.Grid.{at, put}
 use Rattle.journal.specs.State.{write_at, lowest}
 use Rattle.journal.proofs.CellLoops.{lacks_past, lacks_mark, or_mark, set_pick, pick_same}
-use borrow.Author.Rules.{rules}
 use Rattle.journal.proofs.notes.write_if.Goals as goal
 
 pub returns-then-at-all : goal.returns-then-at-all

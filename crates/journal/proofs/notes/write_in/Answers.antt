@@ -5,7 +5,6 @@ use native.Mathlib.Omega.{arith}
 use lib.Seq.{set_out}
 use Rattle.sudoku.specs.Grid.{at, put}
 use Rattle.journal.specs.State.{write_at}
-use borrow.Author.Rules.{rules}
 use Rattle.journal.proofs.notes.write_in.Goals as goal
 
 pub returns-then-at-all : goal.returns-then-at-all

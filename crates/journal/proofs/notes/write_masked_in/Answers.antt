@@ -2,14 +2,11 @@
 -- writing by the rest of the mask at what is left of the cells completes the notes,
 -- and what was found so far together with what is found there completes the answer.
 -- Assumes nothing.
-use Prim.Native.Nat.{◌-◌}
-use mathlib.Core.Path.{◌≡◌, refl, sym, ◌∙◌}
-use lib.ListN.{length, drop}
+use mathlib.Core.Path.{refl, sym, ◌∙◌}
 use Rattle.sudoku.specs.Tests.{both}
-use Rattle.journal.specs.State.{write_at, write_masked}
+use Rattle.journal.specs.State.{write_at}
 use Rattle.journal.specs.Code.InTurn.{lacks, lack_in_turn}
 use Rattle.journal.proofs.CellLoops.{in_turn_step, in_turn_end, write_masked_turn, write_masked_end}
-use borrow.Author.Rules.{rules}
 use Rattle.journal.proofs.notes.write_masked_in.Goals as goal
 
 pub loop-i-init : goal.loop-i-init

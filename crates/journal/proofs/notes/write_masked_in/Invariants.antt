@@ -3,13 +3,11 @@
 -- and what was found so far together with what is found there completes the answer.
 -- Assumes nothing.
 use Prim.Native.Nat.{◌-◌}
-use mathlib.Core.Path.{◌≡◌, refl, sym, ◌∙◌}
+use mathlib.Core.Path.{◌≡◌}
 use lib.ListN.{length, drop}
 use Rattle.sudoku.specs.Tests.{both}
-use Rattle.journal.specs.State.{write_at, write_masked}
-use Rattle.journal.specs.Code.InTurn.{lacks, lack_in_turn}
-use Rattle.journal.proofs.CellLoops.{in_turn_step, in_turn_end, write_masked_turn, write_masked_end}
-use borrow.Author.Rules.{rules}
+use Rattle.journal.specs.State.{write_masked}
+use Rattle.journal.specs.Code.InTurn.{lack_in_turn}
 use Rattle.journal.proofs.notes.write_masked_in.Given as goal
 
 abbrev pub invariant-loop-i : goal.invariant-loop-i

@@ -2,8 +2,6 @@
 -- Assumes nothing.
 use mathlib.Core.Path.{sym, ap, ◌∙◌}
 use mathlib.Core.Bool.{not}
-use borrow.Author.Tests.{not-true, not-false}
-use borrow.Author.Rules.{rules}
 use Rattle.sudoku.proofs.Walks.{both_first, both_false_left}
 use Rattle.puzzle.specs.Givens.{is_given}
 use Rattle.journal.specs.Slots.{is_free}

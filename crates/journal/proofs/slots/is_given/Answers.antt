@@ -3,7 +3,6 @@
 use mathlib.Core.Path.{sym, ap}
 use mathlib.Core.Bool.{not}
 use native.Mathlib.Omega.{arith}
-use borrow.Author.Rules.{rules}
 use lib.Dec.{eqb}
 use Rattle.sudoku.specs.Grid.{at}
 use Rattle.puzzle.specs.Givens.{is_given}

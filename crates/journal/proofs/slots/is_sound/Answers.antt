@@ -1,8 +1,6 @@
 -- `journal::slots::is_sound` meets its contract, kind by kind.
 -- Assumes nothing.
 use mathlib.Core.Path.{sym, ◌∙◌}
-use borrow.Author.Tests.{not-true, not-false}
-use borrow.Author.Rules.{rules}
 use Rattle.journal.proofs.SlotLaws.{sound_not_free, sound_place_lem, sound_erase_lem, sound_write, sound_strike, sound_none}
 use Rattle.journal.proofs.slots.is_sound.Goals as goal
 

@@ -1,7 +1,6 @@
 -- `journal::slots::slot_at` meets its contract. A slot past the end of the journal is all zero.
 -- Assumes nothing.
 use native.Mathlib.Omega.{arith}
-use borrow.Author.Rules.{rules}
 use Rattle.journal.specs.Slots.{slot_start, slot_at}
 use Rattle.journal.proofs.SlotLaws.{slot_past}
 use Rattle.journal.proofs.slots.slot_at.Goals as goal

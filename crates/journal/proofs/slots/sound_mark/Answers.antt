@@ -1,8 +1,7 @@
 -- `journal::slots::sound_mark` meets its contract.
 -- Assumes nothing.
 use mathlib.Core.Path.{sym, ◌∙◌}
-use borrow.Author.Tests.{not-true, not-false, eq-eqb, ne_eqb}
-use borrow.Author.Rules.{rules}
+use borrow.Author.Tests.{eq-eqb, ne_eqb}
 use Rattle.sudoku.proofs.Walks.{both_first, both_false_left}
 use Rattle.journal.specs.Slots.{sound_mark}
 use Rattle.journal.proofs.slots.sound_mark.Goals as goal

@@ -1,8 +1,7 @@
 -- `journal::slots::sound_place` meets its contract.
 -- Assumes nothing.
 use mathlib.Core.Path.{sym, ◌∙◌}
-use borrow.Author.Tests.{not-true, not-false, le-leb, lt-leb}
-use borrow.Author.Rules.{rules}
+use borrow.Author.Tests.{le-leb, lt-leb}
 use Rattle.sudoku.proofs.Walks.{both_first, both_false_left}
 use Rattle.journal.specs.Slots.{sound_place}
 use Rattle.journal.proofs.slots.sound_place.Goals as goal

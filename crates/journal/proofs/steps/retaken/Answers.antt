@@ -2,7 +2,6 @@
 -- Assumes nothing.
 use mathlib.Core.Path.{sym}
 use borrow.Author.Tests.{le-leb, lt-leb}
-use borrow.Author.Rules.{rules}
 use Rattle.sudoku.proofs.Walks.{pick_true, pick_false}
 use Rattle.journal.specs.Counts.{retaken}
 use Rattle.journal.proofs.steps.retaken.Goals as goal

@@ -2,7 +2,6 @@
 -- Assumes nothing.
 use mathlib.Core.Path.{sym}
 use borrow.Author.Tests.{eq-eqb, ne_eqb}
-use borrow.Author.Rules.{rules}
 use Rattle.sudoku.proofs.Walks.{pick_true, pick_false}
 use Rattle.journal.specs.Counts.{taken_back}
 use Rattle.journal.proofs.steps.taken_back.Goals as goal

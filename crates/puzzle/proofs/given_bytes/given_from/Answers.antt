@@ -1,6 +1,5 @@
 -- `puzzle::given_bytes::given_from` meets its contract: its three bytes, one after the other.
 -- Assumes nothing.
-use borrow.Author.Rules.{rules}
 use Rattle.puzzle.specs.Givens.{given}
 use Rattle.puzzle.specs.Code.GivenBytes.{given_from}
 use Rattle.puzzle.proofs.given_bytes.given_from.Goals as goal

@@ -1,15 +1,11 @@
 -- `puzzle::given_bytes::is_ascending` meets its contract: what is left to compare from `i` on decides.
 -- Assumes nothing.
 use Prim.Native.Nat.{◌≤◌, ◌-◌}
-use mathlib.Core.Path.{◌≡◌, sym, ◌∙◌}
-use native.Mathlib.Omega.{arith}
-use borrow.Author.Tests.{not-true, not-false}
-use borrow.Author.Rules.{rules}
+use mathlib.Core.Path.{◌≡◌}
 use Rattle.sudoku.specs.Tests.{every}
-use Rattle.sudoku.proofs.Walks.{every_more, every_fails, every_all}
-use Rattle.puzzle.specs.Givens.{precedes, ascending}
+use Rattle.puzzle.specs.Givens.{ascending}
 use Rattle.puzzle.specs.Code.GivenBytes.{given_in, givens_in}
-use Rattle.puzzle.proofs.GivenBytes.{in_order, ascending_walk}
+use Rattle.puzzle.proofs.GivenBytes.{in_order}
 use Rattle.puzzle.proofs.given_bytes.is_ascending.Given as goal
 
 abbrev pub invariant-loop-i : goal.invariant-loop-i

@@ -1,12 +1,11 @@
 -- `puzzle::given_bytes::mark_givens` meets its contract: the givens
 -- from `i` on, marked over what the loop has so far, are the whole.
 -- Assumes nothing.
-use Prim.Native.Nat.{ℕ, ◌≤◌, ◌+◌, ◌-◌}
+use Prim.Native.Nat.{ℕ, ◌+◌, ◌-◌}
 use mathlib.Core.Path.{◌≡◌, sym, ap, ◌∙◌}
 use native.Mathlib.Nat.{sub-zero}
 use native.Mathlib.Omega.{arith}
-use borrow.Author.Rules.{rules}
-use lib.ListN.{length, set, replicate, length-set}
+use lib.ListN.{set, replicate, length-set}
 use Rattle.sudoku.specs.Tests.{run}
 use Rattle.sudoku.specs.Grid.{cell_of, put}
 use Rattle.sudoku.proofs.Walks.{run_more, run_all}

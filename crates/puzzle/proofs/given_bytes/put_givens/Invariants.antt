@@ -1,19 +1,13 @@
 -- `puzzle::given_bytes::put_givens` meets its contract: the givens
 -- from `i` on, put over what the loop has so far, are the whole.
 -- Assumes nothing.
-use Prim.Native.Nat.{ℕ, ◌≤◌, ◌+◌, ◌-◌}
-use mathlib.Core.Path.{◌≡◌, sym, ap, ◌∙◌}
-use native.Mathlib.Nat.{sub-zero}
-use native.Mathlib.Omega.{arith}
-use borrow.Author.Rules.{rules}
-use lib.ListN.{length, set, replicate, length-set}
+use Prim.Native.Nat.{◌≤◌, ◌-◌}
+use mathlib.Core.Path.{◌≡◌}
+use lib.ListN.{length}
 use Rattle.sudoku.specs.Tests.{run}
-use Rattle.sudoku.specs.Grid.{cell_of, put}
-use Rattle.sudoku.proofs.Walks.{run_more, run_all}
-use Rattle.puzzle.specs.declared.Given.{Given}
 use Rattle.puzzle.specs.Givens.{digits_of}
 use Rattle.puzzle.specs.Code.GivenBytes.{given_in, givens_in}
-use Rattle.puzzle.proofs.GivenBytes.{put_at, put_walk}
+use Rattle.puzzle.proofs.GivenBytes.{put_at}
 use Rattle.puzzle.proofs.given_bytes.put_givens.Given as goal
 
 abbrev pub invariant-loop-i : goal.invariant-loop-i

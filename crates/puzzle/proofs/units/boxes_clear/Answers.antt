@@ -2,7 +2,6 @@
 -- the order is one test, which antt computes over its 81 entries: `refl`.
 -- Assumes nothing.
 use mathlib.Core.Path.{refl, ap, ◌∙◌}
-use borrow.Author.Rules.{rules}
 use Rattle.sudoku.specs.Tests.{every, both}
 use Rattle.puzzle.specs.Code.Units.{columns_clear, box_order}
 use Rattle.puzzle.proofs.Columns.{reordered_same}

@@ -1,14 +1,10 @@
 -- `puzzle::units::columns_clear` meets its contract: what is left to test from `k` on decides.
 -- Assumes nothing.
 use Prim.Native.Nat.{ℕ, ◌≤◌, ◌-◌, ◌*◌}
-use mathlib.Core.Path.{◌≡◌, refl, sym, ◌∙◌}
+use mathlib.Core.Path.{◌≡◌}
 use mathlib.Core.Bool.{Bool}
 use mathlib.Core.List.{List}
-use native.Mathlib.Omega.{arith}
-use borrow.Author.Rules.{rules}
-use borrow.Author.Tests.{not-true, not-false}
 use Rattle.sudoku.specs.Tests.{every}
-use Rattle.sudoku.proofs.Walks.{every_more, every_fails, every_all}
 use Rattle.puzzle.specs.Code.Units.{step_clear, columns_clear}
 use Rattle.puzzle.proofs.units.columns_clear.Given as goal
 

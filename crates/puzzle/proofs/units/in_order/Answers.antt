@@ -1,14 +1,13 @@
 -- `puzzle::units::in_order` meets its contract: the entries passed so far are those of the order.
 -- Assumes nothing.
-use Prim.Native.Nat.{ℕ, ◌≤◌, ◌<◌, ◌-◌}
+use Prim.Native.Nat.{ℕ, ◌<◌}
 use mathlib.Core.Path.{◌≡◌, refl, ◌∙◌}
 use mathlib.Core.Bool.{true}
 use mathlib.Core.List.{List}
 use native.Mathlib.Omega.{arith}
-use borrow.Author.Rules.{rules}
 use borrow.Author.Tests.{ltb-true}
 use lib.Dec.{ltb}
-use lib.ListN.{length, get_or, take, length-set}
+use lib.ListN.{get_or, length-set}
 use Rattle.sudoku.specs.Tests.{every, listed}
 use Rattle.sudoku.proofs.Walks.{every_at}
 use Rattle.sudoku.proofs.Listed.{fill_more, fill_all}

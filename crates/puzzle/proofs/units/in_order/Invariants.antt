@@ -1,18 +1,10 @@
 -- `puzzle::units::in_order` meets its contract: the entries passed so far are those of the order.
 -- Assumes nothing.
-use Prim.Native.Nat.{ℕ, ◌≤◌, ◌<◌, ◌-◌}
-use mathlib.Core.Path.{◌≡◌, refl, ◌∙◌}
-use mathlib.Core.Bool.{true}
+use Prim.Native.Nat.{ℕ, ◌≤◌, ◌-◌}
+use mathlib.Core.Path.{◌≡◌}
 use mathlib.Core.List.{List}
-use native.Mathlib.Omega.{arith}
-use borrow.Author.Rules.{rules}
-use borrow.Author.Tests.{ltb-true}
-use lib.Dec.{ltb}
-use lib.ListN.{length, get_or, take, length-set}
-use Rattle.sudoku.specs.Tests.{every, listed}
-use Rattle.sudoku.proofs.Walks.{every_at}
-use Rattle.sudoku.proofs.Listed.{fill_more, fill_all}
-use Rattle.puzzle.specs.Code.Units.{reordered}
+use lib.ListN.{length, get_or, take}
+use Rattle.sudoku.specs.Tests.{listed}
 use Rattle.puzzle.proofs.units.in_order.Given as goal
 
 -- what stands at i in the order

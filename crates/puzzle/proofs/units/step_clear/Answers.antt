@@ -1,14 +1,7 @@
 -- `puzzle::units::step_clear` meets its contract. The invariant: what
 -- was found so far, and what is left of the walk, make the whole walk.
 -- Assumes nothing.
-use Prim.Native.Nat.{ℕ, ◌+◌, ◌-◌}
-use mathlib.Core.Path.{◌≡◌}
-use mathlib.Core.Bool.{Bool, not}
-use mathlib.Core.List.{List}
-use borrow.Author.Rules.{rules}
-use lib.Dec.{eqb}
-use lib.ListN.{get_or}
-use Rattle.sudoku.specs.Tests.{both, either, every}
+use Prim.Native.Nat.{◌-◌}
 use Rattle.puzzle.specs.Code.Units.{step_clear}
 use Rattle.puzzle.proofs.Columns.{clear_starts, clear_more, clear_all}
 use Rattle.puzzle.proofs.units.step_clear.Invariants.{test}

@@ -5,12 +5,10 @@ use Prim.Native.Nat.{ℕ, ◌+◌, ◌-◌}
 use mathlib.Core.Path.{◌≡◌}
 use mathlib.Core.Bool.{Bool, not}
 use mathlib.Core.List.{List}
-use borrow.Author.Rules.{rules}
 use lib.Dec.{eqb}
 use lib.ListN.{get_or}
 use Rattle.sudoku.specs.Tests.{both, either, every}
 use Rattle.puzzle.specs.Code.Units.{step_clear}
-use Rattle.puzzle.proofs.Columns.{clear_starts, clear_more, clear_all}
 use Rattle.puzzle.proofs.units.step_clear.Given as goal
 
 -- the test at one index

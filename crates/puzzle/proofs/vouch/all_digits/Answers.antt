@@ -1,15 +1,11 @@
 -- `puzzle::vouch::all_digits` meets its contract. The invariant: what
 -- was found so far, and what is left of the walk, make the whole walk.
 -- Assumes nothing.
-use Prim.Native.Nat.{ℕ, ◌≤◌, ◌-◌}
-use mathlib.Core.Path.{◌≡◌, refl, sym, ap, ◌∙◌}
-use mathlib.Core.Bool.{Bool}
-use mathlib.Core.List.{List}
+use Prim.Native.Nat.{ℕ}
+use mathlib.Core.Path.{refl, sym, ap, ◌∙◌}
 use native.Mathlib.Omega.{arith}
-use borrow.Author.Rules.{rules}
-use Rattle.sudoku.specs.Tests.{both, every}
-use Rattle.sudoku.specs.Grid.{in_range, at}
-use Rattle.puzzle.specs.Code.Rows.{flat}
+use Rattle.sudoku.specs.Tests.{both}
+use Rattle.sudoku.specs.Grid.{in_range}
 use Rattle.puzzle.proofs.Columns.{clear_more, clear_all}
 use Rattle.puzzle.proofs.Rows.{flat_cell}
 use Rattle.puzzle.proofs.vouch.all_digits.Invariants.{test}

@@ -2,7 +2,6 @@
 -- rows, which finds nothing where the grid is full and no cell conflicts.
 -- Assumes nothing.
 use mathlib.Core.Path.{sym, ◌∙◌}
-use borrow.Author.Rules.{rules}
 use Rattle.puzzle.proofs.Posed.{settled_passes}
 use Rattle.puzzle.proofs.vouch.consistent.Goals as goal
 

@@ -1,7 +1,6 @@
 -- `puzzle::vouch::digit_step` meets its contract: a digit changes nothing, and anything else undoes what was found.
 -- Assumes nothing.
 use mathlib.Core.Path.{sym, ◌∙◌}
-use borrow.Author.Rules.{rules}
 use Rattle.sudoku.proofs.Walks.{both_second, both_false_right}
 use Rattle.puzzle.proofs.vouch.digit_step.Goals as goal
 

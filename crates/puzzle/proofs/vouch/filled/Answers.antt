@@ -1,7 +1,6 @@
 -- `puzzle::vouch::filled` meets its contract: that of the walk, which finds nothing where all 81 cells hold digits.
 -- Assumes nothing.
 use mathlib.Core.Path.{sym, ◌∙◌}
-use borrow.Author.Rules.{rules}
 use Rattle.puzzle.proofs.Posed.{digits_pass}
 use Rattle.puzzle.proofs.vouch.filled.Goals as goal
 

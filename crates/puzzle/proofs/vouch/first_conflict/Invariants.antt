@@ -1,11 +1,8 @@
 -- `puzzle::vouch::first_conflict` meets its contract: what is left to test from `cell` on decides.
 -- Assumes nothing.
 use Prim.Native.Nat.{◌≤◌, ◌-◌}
-use mathlib.Core.Path.{◌≡◌, refl, sym, ◌∙◌}
-use native.Mathlib.Omega.{arith}
-use borrow.Author.Rules.{rules}
+use mathlib.Core.Path.{◌≡◌}
 use Rattle.puzzle.specs.Refusals.{first_refused}
-use Rattle.puzzle.proofs.Refusals.{walk_refused, walk_more, walk_all}
 use Rattle.puzzle.specs.Vouch.{solution_conflict}
 use Rattle.puzzle.specs.Code.Rows.{flat}
 use Rattle.puzzle.proofs.vouch.first_conflict.Given as goal

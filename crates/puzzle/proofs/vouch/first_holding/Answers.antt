@@ -1,13 +1,10 @@
 -- `puzzle::vouch::first_holding` meets its contract: what is left to test from `i` on decides.
 -- Assumes nothing.
-use Prim.Native.Nat.{ℕ, ◌-◌, ◌/◌, ◌%◌, ◌≤◌, ◌<◌}
-use mathlib.Core.Path.{◌≡◌, refl, sym, ap, ◌∙◌}
+use Prim.Native.Nat.{ℕ, ◌-◌, ◌/◌, ◌%◌}
+use mathlib.Core.Path.{refl, sym, ap, ◌∙◌}
 use mathlib.Core.List.{[]}
 use native.Mathlib.Omega.{arith}
-use borrow.Author.Rules.{rules}
-use lib.ListN.{get_or, drop}
-use Rattle.sudoku.specs.Grid.{at}
-use Rattle.puzzle.specs.Vouch.{first_holding}
+use lib.ListN.{get_or}
 use Rattle.puzzle.specs.Code.Rows.{flat}
 use Rattle.puzzle.proofs.Rows.{flat_cell}
 use Rattle.puzzle.proofs.Search.{holding_here, holding_later, holding_nowhere}

@@ -1,10 +1,7 @@
 -- `puzzle::vouch::first_unfilled` meets its contract: what is left to test from `cell` on decides.
 -- Assumes nothing.
-use Prim.Native.Nat.{◌≤◌, ◌-◌}
-use mathlib.Core.Path.{◌≡◌, refl, sym, ◌∙◌}
+use mathlib.Core.Path.{refl, sym, ◌∙◌}
 use native.Mathlib.Omega.{arith}
-use borrow.Author.Rules.{rules}
-use Rattle.puzzle.specs.Refusals.{first_refused}
 use Rattle.puzzle.proofs.Refusals.{walk_refused, walk_more, walk_all}
 use Rattle.puzzle.specs.Vouch.{solution_digit}
 use Rattle.puzzle.specs.Code.Rows.{flat}

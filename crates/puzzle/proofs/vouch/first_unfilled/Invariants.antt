@@ -1,14 +1,10 @@
 -- `puzzle::vouch::first_unfilled` meets its contract: what is left to test from `cell` on decides.
 -- Assumes nothing.
 use Prim.Native.Nat.{◌≤◌, ◌-◌}
-use mathlib.Core.Path.{◌≡◌, refl, sym, ◌∙◌}
-use native.Mathlib.Omega.{arith}
-use borrow.Author.Rules.{rules}
+use mathlib.Core.Path.{◌≡◌}
 use Rattle.puzzle.specs.Refusals.{first_refused}
-use Rattle.puzzle.proofs.Refusals.{walk_refused, walk_more, walk_all}
 use Rattle.puzzle.specs.Vouch.{solution_digit}
 use Rattle.puzzle.specs.Code.Rows.{flat}
-use Rattle.puzzle.proofs.Rows.{flat_cell}
 use Rattle.puzzle.proofs.vouch.first_unfilled.Given as goal
 
 abbrev pub invariant-loop-cell : goal.invariant-loop-cell

@@ -1,10 +1,8 @@
 -- `puzzle::vouch::flat` meets its contract: the entries passed so far are those of the rows.
 -- Assumes nothing.
-use Prim.Native.Nat.{◌≤◌, ◌-◌}
-use mathlib.Core.Path.{◌≡◌, refl, ◌∙◌}
+use mathlib.Core.Path.{refl, ◌∙◌}
 use native.Mathlib.Omega.{arith}
-use borrow.Author.Rules.{rules}
-use lib.ListN.{length, take, length-set}
+use lib.ListN.{length-set}
 use Rattle.sudoku.specs.Tests.{listed}
 use Rattle.sudoku.proofs.Listed.{fill_more, fill_all}
 use Rattle.puzzle.specs.Code.Rows.{entry_at, flat}

@@ -1,18 +1,16 @@
 -- `puzzle::vouch::given_matches` meets its contract: each of its three
 -- returns is the definition where the tests before it have gone as they did.
 -- Assumes nothing.
-use Prim.Native.Nat.{ℕ, ◌-◌}
+use Prim.Native.Nat.{ℕ}
 use mathlib.Core.Path.{◌≡◌, refl, sym, ◌∙◌}
 use mathlib.Core.Bool.{true, false}
-use mathlib.Core.List.{List, []}
+use mathlib.Core.List.{List}
 use native.Mathlib.Omega.{arith}
-use borrow.Author.Tests.{eq-eqb, ne_eqb, eqb-false, not-true, not-false}
-use borrow.Author.Rules.{rules}
+use borrow.Author.Tests.{eq-eqb, ne_eqb, eqb-false}
 use lib.Dec.{eqb}
-use lib.ListN.{get_or}
 use Rattle.sudoku.specs.Grid.{on_grid, cell_of, at}
 use Rattle.sudoku.proofs.Walks.{not_is_true, not_is_false}
-use Rattle.sudoku.proofs.Grid.{Bounds, grid_bounds}
+use Rattle.sudoku.proofs.Grid.{grid_bounds}
 use Rattle.puzzle.specs.declared.Given.{Given}
 use Rattle.puzzle.specs.Refusals.{refusal, accepted}
 use Rattle.puzzle.specs.Vouch.{given_matches}

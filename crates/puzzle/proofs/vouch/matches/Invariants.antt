@@ -1,17 +1,12 @@
 -- `puzzle::vouch::matches` meets its contract: what is left to test from `i` on decides.
 -- Assumes nothing.
-use Prim.Native.Nat.{◌≤◌, ◌+◌, ◌-◌}
-use mathlib.Core.Path.{◌≡◌, sym, ap, ◌∙◌}
-use native.Mathlib.Omega.{arith}
-use native.Mathlib.Nat.{sub-zero}
-use borrow.Author.Rules.{rules}
+use Prim.Native.Nat.{◌≤◌, ◌-◌}
+use mathlib.Core.Path.{◌≡◌}
 use Rattle.puzzle.specs.Refusals.{first_refused}
-use Rattle.puzzle.proofs.Refusals.{walk_refused, walk_more, walk_all}
-use Rattle.puzzle.specs.declared.Given.{Given}
 use Rattle.puzzle.specs.Code.GivenBytes.{given_in, givens_in}
 use Rattle.puzzle.specs.Code.Rows.{flat}
-use Rattle.puzzle.specs.Vouch.{given_matches, givens_match}
-use Rattle.puzzle.proofs.GivenBytes.{match_at, matches_walk}
+use Rattle.puzzle.specs.Vouch.{givens_match}
+use Rattle.puzzle.proofs.GivenBytes.{match_at}
 use Rattle.puzzle.proofs.vouch.matches.Given as goal
 
 abbrev pub invariant-loop-i : goal.invariant-loop-i

@@ -1,14 +1,10 @@
 -- `puzzle::vouch::row_at` meets its contract: the entries passed so far are the row's.
 -- Assumes nothing.
 use Prim.Native.Nat.{ℕ, ◌≤◌, ◌+◌, ◌-◌, ◌*◌}
-use mathlib.Core.Path.{◌≡◌, refl, ◌∙◌}
+use mathlib.Core.Path.{◌≡◌}
 use mathlib.Core.List.{List}
-use native.Mathlib.Omega.{arith}
-use borrow.Author.Rules.{rules}
-use lib.ListN.{length, get_or, take, length-set}
+use lib.ListN.{length, get_or, take}
 use Rattle.sudoku.specs.Tests.{listed}
-use Rattle.sudoku.proofs.Listed.{fill_more, fill_all}
-use Rattle.puzzle.specs.Code.Rows.{row_at}
 use Rattle.puzzle.proofs.vouch.row_at.Given as goal
 
 -- the row's entry with index i

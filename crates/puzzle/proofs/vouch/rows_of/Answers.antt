@@ -1,10 +1,8 @@
 -- `puzzle::vouch::rows_of` meets its contract: the rows passed so far are the solution's.
 -- Assumes nothing.
-use Prim.Native.Nat.{◌≤◌, ◌-◌}
-use mathlib.Core.Path.{◌≡◌, refl, ◌∙◌}
+use mathlib.Core.Path.{refl, ◌∙◌}
 use native.Mathlib.Omega.{arith}
-use borrow.Author.Rules.{rules}
-use lib.ListN.{length, take, length-set}
+use lib.ListN.{length-set}
 use Rattle.sudoku.specs.Tests.{listed}
 use Rattle.sudoku.proofs.Listed.{fill_more, fill_all}
 use Rattle.puzzle.specs.Code.Rows.{row_at, rows_of}

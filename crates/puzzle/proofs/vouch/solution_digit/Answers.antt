@@ -5,7 +5,6 @@ use Prim.Native.Nat.{ℕ, ◌≤◌, ◌<◌}
 use mathlib.Core.Path.{◌≡◌, refl, sym, ◌∙◌}
 use mathlib.Core.List.{List}
 use borrow.Author.Tests.{eq-eqb, ne_eqb, eqb-false, le-leb, lt-leb}
-use borrow.Author.Rules.{rules}
 use lib.Dec.{eqb, leb}
 use Rattle.sudoku.specs.Grid.{at}
 use Rattle.sudoku.proofs.Walks.{not_is_true, not_is_false}

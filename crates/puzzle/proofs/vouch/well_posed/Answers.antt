@@ -1,13 +1,12 @@
 -- `puzzle::vouch::well_posed` meets its contract: 19, then 22 to 27.
 -- Assumes nothing.
 use mathlib.Core.Path.{refl, sym, ◌∙◌}
-use borrow.Author.Tests.{eqb-false, not-true, not-false}
-use borrow.Author.Rules.{rules}
+use borrow.Author.Tests.{eqb-false}
 use Rattle.sudoku.proofs.Walks.{not_is_true, not_is_false}
 use Rattle.puzzle.specs.Refusals.{refusal}
 use Rattle.puzzle.specs.Givens.{ascending}
 use Rattle.puzzle.specs.Code.GivenBytes.{givens_in}
-use Rattle.puzzle.specs.Vouch.{vouch, well_posed}
+use Rattle.puzzle.specs.Vouch.{well_posed}
 use Rattle.puzzle.proofs.Accepted.{if_not}
 use Rattle.puzzle.proofs.Refusals.{refused_if_lem, or_else_by, or_else_past}
 use Rattle.puzzle.proofs.vouch.well_posed.Goals as goal
