@@ -1,4 +1,4 @@
-//! Links libpawdoku.a from the folder that `PAWDOKU_LIB_DIR` names, by default the one that `rt staticlib pawdoku`
+//! Links libpawdoku.a from the folder that `PAWDOKU_LIB_DIR` names, by default the one that `tools/archive`
 //! writes it to.
 
 use std::path::{Path, PathBuf};
@@ -11,7 +11,7 @@ fn main() -> ExitCode {
     println!("cargo:rerun-if-changed={}", archive.display());
     if !archive.is_file() {
         eprintln!(
-            "{} is not there: make it by `rt staticlib pawdoku`, or name its folder in PAWDOKU_LIB_DIR",
+            "{} is not there: make it by `tools/archive`, or name its folder in PAWDOKU_LIB_DIR",
             archive.display()
         );
         return ExitCode::FAILURE;

@@ -2,7 +2,6 @@
 -- Assumes nothing.
 use Rattle.journal.specs.State.{accepts_marks}
 use Rattle.board.specs.Board.{state_of}
-use borrow.Author.Rules.{rules}
 use Rattle.questions.specs.Questions.{accepts_marks_question}
 use Rattle.questions.proofs.accepts_marks.Goals as goal
 

@@ -5,7 +5,6 @@ use Rattle.sudoku.proofs.Walks.{refused}
 use Rattle.board.proofs.Numbers.{last_if}
 use mathlib.Core.Bool.{not}
 use Rattle.questions.specs.Questions.{board_number}
-use borrow.Author.Rules.{rules}
 use Rattle.questions.proofs.board_number.Goals as goal
 
 pub returns-then-not-is_board : goal.returns-then-not-is_board

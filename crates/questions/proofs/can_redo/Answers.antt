@@ -1,6 +1,5 @@
 -- `questions::can_redo` meets its contract.
 -- Assumes nothing.
-use borrow.Author.Rules.{rules}
 use Rattle.questions.specs.Questions.{can_redo_question}
 use Rattle.questions.proofs.can_redo.Goals as goal
 

@@ -1,6 +1,5 @@
 -- `questions::can_undo` meets its contract.
 -- Assumes nothing.
-use borrow.Author.Rules.{rules}
 use Rattle.questions.specs.Questions.{can_undo_question}
 use Rattle.questions.proofs.can_undo.Goals as goal
 

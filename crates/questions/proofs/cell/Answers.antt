@@ -3,7 +3,6 @@
 use mathlib.Core.Path.{sym, ap, ◌∙◌}
 use borrow.Author.Tests.{eq-eqb, ne_eqb}
 use Rattle.sudoku.proofs.Walks.{pick_true, pick_false}
-use borrow.Author.Rules.{rules}
 use Rattle.questions.specs.Questions.{cell_question, no_cell}
 use Rattle.questions.proofs.cell.Goals as goal
 

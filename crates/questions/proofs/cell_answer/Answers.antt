@@ -2,7 +2,6 @@
 -- Assumes nothing.
 use Rattle.journal.specs.State.{digit_at, note_at}
 use Rattle.board.specs.Board.{state_of}
-use borrow.Author.Rules.{rules}
 use Rattle.questions.specs.Questions.{cell_answer}
 use Rattle.questions.proofs.cell_answer.Goals as goal
 

@@ -1,6 +1,5 @@
 -- `questions::conflicts` meets its contract.
 -- Assumes nothing.
-use borrow.Author.Rules.{rules}
 use Rattle.questions.specs.Questions.{conflicts_question}
 use Rattle.questions.proofs.conflicts.Goals as goal
 

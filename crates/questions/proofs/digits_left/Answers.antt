@@ -2,7 +2,6 @@
 -- Assumes nothing.
 use borrow.Author.Tests.{ne_eqb}
 use Rattle.sudoku.specs.Tests.{pick}
-use borrow.Author.Rules.{rules}
 use Rattle.questions.specs.Questions.{left_question}
 use Rattle.questions.proofs.digits_left.Goals as goal
 

@@ -2,7 +2,6 @@
 -- Assumes nothing.
 use Rattle.journal.specs.State.{holds_players_digit}
 use Rattle.board.specs.Board.{state_of}
-use borrow.Author.Rules.{rules}
 use Rattle.questions.specs.Questions.{players_digit_question}
 use Rattle.questions.proofs.holds_players_digit.Goals as goal
 

@@ -1,6 +1,5 @@
 -- `questions::is_consistent` meets its contract.
 -- Assumes nothing.
-use borrow.Author.Rules.{rules}
 use Rattle.questions.specs.Questions.{consistent_question}
 use Rattle.questions.proofs.is_consistent.Goals as goal
 

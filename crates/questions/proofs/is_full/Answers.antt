@@ -1,6 +1,5 @@
 -- `questions::is_full` meets its contract.
 -- Assumes nothing.
-use borrow.Author.Rules.{rules}
 use Rattle.questions.specs.Questions.{full_question}
 use Rattle.questions.proofs.is_full.Goals as goal
 

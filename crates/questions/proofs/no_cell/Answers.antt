@@ -1,7 +1,6 @@
 -- `questions::no_cell` meets its contract.
 -- Assumes nothing.
 use Rattle.questions.specs.Questions.{no_cell}
-use borrow.Author.Rules.{rules}
 use Rattle.questions.proofs.no_cell.Goals as goal
 
 pub returns : goal.returns

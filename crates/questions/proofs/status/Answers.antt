@@ -1,6 +1,5 @@
 -- `questions::status` meets its contract.
 -- Assumes nothing.
-use borrow.Author.Rules.{rules}
 use Rattle.questions.specs.Questions.{status_question}
 use Rattle.questions.proofs.status.Goals as goal
 

@@ -2,7 +2,6 @@
 -- Assumes nothing.
 use Rattle.sudoku.specs.Tests.{both}
 use borrow.Author.Tests.{eq-eqb, ne_eqb}
-use borrow.Author.Rules.{rules}
 use Rattle.questions.proofs.unless_solved.Goals as goal
 
 pub returns-then-board-ne0 : goal.returns-then-board-ne0

@@ -2,7 +2,6 @@
 -- Assumes nothing.
 use borrow.Author.Tests.{ne_eqb}
 use Rattle.sudoku.specs.Tests.{both}
-use borrow.Author.Rules.{rules}
 use Rattle.questions.specs.Questions.{yes_no}
 use Rattle.questions.proofs.yes_no.Goals as goal
 

@@ -3,7 +3,6 @@
 use mathlib.Core.Path.{sym, ◌∙◌}
 use Rattle.sudoku.specs.Tests.{both}
 use Rattle.sudoku.proofs.Walks.{both_false_left}
-use borrow.Author.Rules.{rules}
 use Rattle.board.proofs.cell.holds_players_digit.Goals as goal
 
 pub returns-then-holds_digit : goal.returns-then-holds_digit

@@ -1,11 +1,9 @@
 -- `board::open::clear` meets its contract: as many bytes as were passed are zero.
 -- Assumes nothing.
-use Prim.Native.Nat.{◌≤◌, ◌-◌}
-use mathlib.Core.Path.{◌≡◌, refl, ◌∙◌}
+use mathlib.Core.Path.{refl, ◌∙◌}
 use native.Mathlib.Omega.{arith}
-use lib.ListN.{length, take, replicate, length-set}
+use lib.ListN.{length-set}
 use Rattle.board.proofs.Opening.{clear_more, clear_all}
-use borrow.Author.Rules.{rules}
 use Rattle.board.proofs.open.clear.Goals as goal
 
 pub loop-i-init : goal.loop-i-init

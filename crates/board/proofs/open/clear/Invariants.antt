@@ -1,11 +1,8 @@
 -- `board::open::clear` meets its contract: as many bytes as were passed are zero.
 -- Assumes nothing.
 use Prim.Native.Nat.{◌≤◌, ◌-◌}
-use mathlib.Core.Path.{◌≡◌, refl, ◌∙◌}
-use native.Mathlib.Omega.{arith}
-use lib.ListN.{length, take, replicate, length-set}
-use Rattle.board.proofs.Opening.{clear_more, clear_all}
-use borrow.Author.Rules.{rules}
+use mathlib.Core.Path.{◌≡◌}
+use lib.ListN.{length, take, replicate}
 use Rattle.board.proofs.open.clear.Given as goal
 
 abbrev pub invariant-loop-i : goal.invariant-loop-i

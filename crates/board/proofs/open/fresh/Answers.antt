@@ -1,6 +1,5 @@
 -- `board::open::fresh` meets its contract: each field is what its own function says.
 -- Assumes nothing.
-use borrow.Author.Rules.{rules}
 use Rattle.journal.specs.State.{opening}
 use Rattle.board.specs.Board.{fresh, board_of}
 use Rattle.board.proofs.open.fresh.Goals as goal

@@ -2,8 +2,6 @@
 -- then zeros and the answer that the puzzle's tests give.
 -- Assumes nothing.
 use mathlib.Core.Path.{sym, ◌∙◌}
-use borrow.Author.Rules.{rules}
-use borrow.Author.Tests.{not-true, not-false}
 use Rattle.board.specs.Open.{lent_lengths}
 use Rattle.board.proofs.Opening.{wrong_lent, wrong_givens, right_lent, solution_length}
 use Rattle.board.proofs.open.open.Goals as goal

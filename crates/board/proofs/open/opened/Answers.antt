@@ -1,9 +1,6 @@
 -- `board::open::opened` meets its contract: the triples are the givens in their
 -- layout, and the nine rows, laid out again, are the solution of 81 bytes.
 -- Assumes nothing.
-use mathlib.Core.Path.{◌≡◌}
-use borrow.Author.Rules.{rules}
-use Rattle.puzzle.specs.Code.Rows.{flat}
 use Rattle.puzzle.proofs.Rows.{laid_out}
 use Rattle.board.proofs.Opening.{opened_fresh_lem, opened_refused}
 use Rattle.board.proofs.open.opened.Goals as goal

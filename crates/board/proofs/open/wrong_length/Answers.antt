@@ -1,6 +1,5 @@
 -- `board::open::wrong_length` meets its contract.
 -- Assumes nothing.
-use borrow.Author.Rules.{rules}
 use Rattle.board.proofs.open.wrong_length.Goals as goal
 
 pub returns : goal.returns

@@ -11,7 +11,6 @@ use Rattle.sudoku.specs.Tests.{pick, both}
 use Rattle.sudoku.proofs.Walks.{by_test, both_true, both_second, both_false_left, both_false_right, both_assoc, and_both}
 use Rattle.puzzle.specs.Givens.{is_on}
 use Rattle.board.specs.Board.{may_stand}
-use borrow.Author.Rules.{rules}
 use Rattle.board.proofs.value.cell_step.Goals as goal
 
 flag_by : (none : Bool) (flag : ℕ) → leb flag (pick none 0 1) ≡ both (leb flag 1) (not (both (is_on flag) none))

@@ -1,14 +1,12 @@
 -- `board::value::cell_values` meets its contract. The invariant: what was found so far, and what is left
 -- of the walk, make the whole walk; and the one walk, with both tests of each cell, is the two.
 -- Assumes nothing.
-use Prim.Native.Nat.{ℕ, ◌≤◌, ◌+◌, ◌-◌}
+use Prim.Native.Nat.{ℕ, ◌+◌}
 use mathlib.Core.Path.{◌≡◌, refl, sym, ap, ◌∙◌}
-use mathlib.Core.Bool.{Bool}
 use mathlib.Core.List.{List}
 use native.Mathlib.Omega.{arith}
-use borrow.Author.Rules.{rules}
 use lib.ListN.{get_or}
-use Rattle.sudoku.specs.Tests.{both, every}
+use Rattle.sudoku.specs.Tests.{both}
 use Rattle.sudoku.specs.Grid.{in_range}
 use Rattle.sudoku.proofs.Walks.{every_both}
 use Rattle.board.specs.Board.{may_stand, digit_value, solution_value}

@@ -2,17 +2,11 @@
 -- of the walk, make the whole walk; and the one walk, with both tests of each cell, is the two.
 -- Assumes nothing.
 use Prim.Native.Nat.{ℕ, ◌≤◌, ◌+◌, ◌-◌}
-use mathlib.Core.Path.{◌≡◌, refl, sym, ap, ◌∙◌}
+use mathlib.Core.Path.{◌≡◌}
 use mathlib.Core.Bool.{Bool}
 use mathlib.Core.List.{List}
-use native.Mathlib.Omega.{arith}
-use borrow.Author.Rules.{rules}
-use lib.ListN.{get_or}
 use Rattle.sudoku.specs.Tests.{both, every}
-use Rattle.sudoku.specs.Grid.{in_range}
-use Rattle.sudoku.proofs.Walks.{every_both}
-use Rattle.board.specs.Board.{may_stand, digit_value, solution_value}
-use Rattle.board.proofs.Values.{at_next, turn, at_end}
+use Rattle.board.specs.Board.{digit_value, solution_value}
 use Rattle.board.proofs.value.cell_values.Given as goal
 
 -- both tests of a cell

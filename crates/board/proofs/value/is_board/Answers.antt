@@ -4,8 +4,7 @@
 use Prim.Native.Nat.{◌≤◌, ◌<◌}
 use mathlib.Core.Path.{◌≡◌, refl, sym, ◌∙◌}
 use mathlib.Core.Bool.{true, false}
-use borrow.Author.Rules.{rules}
-use borrow.Author.Tests.{le-leb, lt-leb, not-true, not-false}
+use borrow.Author.Tests.{le-leb, lt-leb}
 use Rattle.sudoku.specs.Tests.{both, every}
 use Rattle.sudoku.proofs.Walks.{both_false_right}
 use Rattle.journal.specs.Limits.{max_moves, max_checks}

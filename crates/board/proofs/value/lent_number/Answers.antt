@@ -6,7 +6,6 @@ use native.Mathlib.Omega.{arith}
 use Rattle.sudoku.proofs.Walks.{refused, no_if}
 use Rattle.board.specs.Board.{lent_tests}
 use Rattle.board.proofs.Numbers.{last_if}
-use borrow.Author.Rules.{rules}
 use Rattle.board.proofs.value.lent_number.Goals as goal
 
 pub returns-then-not-fits : goal.returns-then-not-fits

@@ -1,7 +1,6 @@
 -- `board::value::note_step` meets its contract.
 -- Assumes nothing.
 use mathlib.Core.Path.{sym, ◌∙◌}
-use borrow.Author.Rules.{rules}
 use Rattle.sudoku.proofs.Walks.{both_false_right, both_second}
 use Rattle.board.proofs.value.note_step.Goals as goal
 

@@ -1,11 +1,9 @@
 -- `board::value::note_values` meets its contract. The invariant: what
 -- was found so far, and what is left of the walk, make the whole walk.
 -- Assumes nothing.
-use Prim.Native.Nat.{◌≤◌, ◌+◌, ◌-◌}
-use mathlib.Core.Path.{◌≡◌, refl, sym, ap, ◌∙◌}
+use mathlib.Core.Path.{refl, sym, ap, ◌∙◌}
 use native.Mathlib.Omega.{arith}
-use borrow.Author.Rules.{rules}
-use Rattle.sudoku.specs.Tests.{both, every}
+use Rattle.sudoku.specs.Tests.{both}
 use Rattle.note.specs.Note.{is_note}
 use Rattle.board.specs.Board.{note_value}
 use Rattle.board.proofs.Values.{at_next, turn, at_end}

@@ -2,13 +2,9 @@
 -- was found so far, and what is left of the walk, make the whole walk.
 -- Assumes nothing.
 use Prim.Native.Nat.{◌≤◌, ◌+◌, ◌-◌}
-use mathlib.Core.Path.{◌≡◌, refl, sym, ap, ◌∙◌}
-use native.Mathlib.Omega.{arith}
-use borrow.Author.Rules.{rules}
+use mathlib.Core.Path.{◌≡◌}
 use Rattle.sudoku.specs.Tests.{both, every}
-use Rattle.note.specs.Note.{is_note}
 use Rattle.board.specs.Board.{note_value}
-use Rattle.board.proofs.Values.{at_next, turn, at_end}
 use Rattle.board.proofs.value.note_values.Given as goal
 
 abbrev pub invariant-loop-i : goal.invariant-loop-i

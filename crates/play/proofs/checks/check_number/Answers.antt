@@ -9,7 +9,6 @@ use Rattle.journal.specs.State.{holds_players_digit}
 use Rattle.board.specs.Board.{state_of, lent_tests}
 use Rattle.board.proofs.Numbers.{last_if}
 use Rattle.play.proofs.Joined.{two_refuse, two_pass}
-use borrow.Author.Rules.{rules}
 use Rattle.play.proofs.checks.check_number.Goals as goal
 
 pub returns-then-lent-ne0 : goal.returns-then-lent-ne0

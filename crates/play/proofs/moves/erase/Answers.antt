@@ -1,7 +1,6 @@
 -- `play::moves::erase` meets its contract.
 -- Assumes nothing.
 use Rattle.play.specs.Play.{erase_of}
-use borrow.Author.Rules.{rules}
 use Rattle.play.proofs.moves.erase.Goals as goal
 
 pub returns : goal.returns

@@ -3,7 +3,6 @@
 use mathlib.Core.Path.{◌∙◌}
 use Rattle.play.specs.Code.Parts.{parts}
 use Rattle.play.proofs.Parts.{perform_parts}
-use borrow.Author.Rules.{rules}
 use Rattle.play.proofs.moves.make_in.Goals as goal
 
 pub returns : goal.returns

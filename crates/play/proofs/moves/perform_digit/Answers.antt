@@ -2,8 +2,6 @@
 -- Assumes nothing.
 use mathlib.Core.Path.{refl}
 use Rattle.journal.specs.State.{perform, put_digit, with_notes}
-use borrow.Author.Rules.{rules}
-use borrow.Author.Rules.{rules}
 use Rattle.play.proofs.moves.perform_digit.Goals as goal
 
 pub returns-in-Place : goal.returns-in-Place

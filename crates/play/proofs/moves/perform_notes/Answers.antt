@@ -1,7 +1,6 @@
 -- `play::moves::perform_notes` meets its contract, move by move.
 -- Assumes nothing.
 use Rattle.journal.specs.State.{perform, put_digit, with_notes}
-use borrow.Author.Rules.{rules}
 use Rattle.play.proofs.moves.perform_notes.Goals as goal
 
 pub returns-in-Place : goal.returns-in-Place

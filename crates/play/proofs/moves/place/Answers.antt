@@ -1,7 +1,6 @@
 -- `play::moves::place` meets its contract.
 -- Assumes nothing.
 use Rattle.play.specs.Play.{place_of}
-use borrow.Author.Rules.{rules}
 use Rattle.play.proofs.moves.place.Goals as goal
 
 pub returns : goal.returns

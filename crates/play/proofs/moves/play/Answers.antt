@@ -12,7 +12,6 @@ use Rattle.board.specs.Open.{answer}
 use Rattle.play.specs.Play.{Played, record_move}
 use Rattle.play.proofs.Parts.{perform_parts}
 use Rattle.play.proofs.Accepted.{call_number, play_refused, play_made, play_room}
-use borrow.Author.Rules.{rules}
 use Rattle.play.proofs.moves.play.Goals as goal
 
 pub returns-then-n-ne0 : goal.returns-then-n-ne0

@@ -3,8 +3,6 @@
 use borrow.Author.Tests.{eq-eqb, ne_eqb}
 use Rattle.sudoku.specs.Tests.{pick}
 use Rattle.journal.specs.State.{put_digit}
-use borrow.Author.Rules.{rules}
-use borrow.Author.Rules.{rules}
 use Rattle.play.proofs.moves.put_in.Goals as goal
 
 pub returns-then-digit-eq0 : goal.returns-then-digit-eq0

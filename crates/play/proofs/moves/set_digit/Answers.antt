@@ -4,7 +4,6 @@ use mathlib.Core.Path.{sym}
 use native.Mathlib.Omega.{arith}
 use lib.Seq.{set_out}
 use Rattle.sudoku.specs.Grid.{put}
-use borrow.Author.Rules.{rules}
 use Rattle.play.proofs.moves.set_digit.Goals as goal
 
 pub returns-then-at-all : goal.returns-then-at-all

@@ -2,7 +2,6 @@
 -- Assumes nothing.
 use Rattle.journal.specs.State.{kind_of, row_in, column_in, digit_in, before, struck, digit_at}
 use Rattle.journal.specs.Slots.{slot_for}
-use borrow.Author.Rules.{rules}
 use Rattle.play.proofs.moves.slot_of.Goals as goal
 
 pub returns-in-Place : goal.returns-in-Place

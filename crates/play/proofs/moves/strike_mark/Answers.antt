@@ -1,7 +1,6 @@
 -- `play::moves::strike_mark` meets its contract.
 -- Assumes nothing.
 use Rattle.play.specs.Play.{strike_mark_of}
-use borrow.Author.Rules.{rules}
 use Rattle.play.proofs.moves.strike_mark.Goals as goal
 
 pub returns : goal.returns

@@ -1,6 +1,5 @@
 -- `play::moves::strike_peers` meets its contract.
 -- Assumes nothing.
-use borrow.Author.Rules.{rules}
 use Rattle.play.proofs.moves.strike_peers.Goals as goal
 
 pub returns : goal.returns

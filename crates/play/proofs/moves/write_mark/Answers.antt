@@ -1,7 +1,6 @@
 -- `play::moves::write_mark` meets its contract.
 -- Assumes nothing.
 use Rattle.play.specs.Play.{write_mark_of}
-use borrow.Author.Rules.{rules}
 use Rattle.play.proofs.moves.write_mark.Goals as goal
 
 pub returns : goal.returns

@@ -5,7 +5,6 @@ use mathlib.Core.Bool.{not}
 use borrow.Author.Tests.{eq-eqb, ne_eqb}
 use Rattle.sudoku.proofs.Walks.{refused, no_if}
 use Rattle.board.proofs.Numbers.{last_if}
-use borrow.Author.Rules.{rules}
 use Rattle.play.proofs.numbers.cell_number.Goals as goal
 
 pub returns-then-not-on_grid : goal.returns-then-not-on_grid

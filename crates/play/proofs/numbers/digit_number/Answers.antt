@@ -6,7 +6,6 @@ use borrow.Author.Tests.{eq-eqb, ne_eqb}
 use Rattle.sudoku.proofs.Walks.{refused, no_if}
 use Rattle.journal.specs.State.{digit_at}
 use Rattle.board.proofs.Numbers.{last_if}
-use borrow.Author.Rules.{rules}
 use Rattle.play.proofs.numbers.digit_number.Goals as goal
 
 pub returns-then-is_given : goal.returns-then-is_given

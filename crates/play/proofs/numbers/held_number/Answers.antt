@@ -5,7 +5,6 @@ use mathlib.Core.Bool.{not}
 use Rattle.sudoku.proofs.Walks.{refused}
 use Rattle.journal.specs.State.{holds_players_digit}
 use Rattle.board.proofs.Numbers.{last_if}
-use borrow.Author.Rules.{rules}
 use Rattle.play.proofs.numbers.held_number.Goals as goal
 
 pub returns-then-not-holds_players_digit : goal.returns-then-not-holds_players_digit

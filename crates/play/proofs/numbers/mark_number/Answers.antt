@@ -7,7 +7,6 @@ use Rattle.sudoku.proofs.Walks.{refused, no_if}
 use Rattle.note.specs.Note.{contains}
 use Rattle.journal.specs.State.{accepts_marks, note_at}
 use Rattle.board.proofs.Numbers.{last_if}
-use borrow.Author.Rules.{rules}
 use Rattle.play.proofs.numbers.mark_number.Goals as goal
 
 pub returns-then-holds_digit : goal.returns-then-holds_digit

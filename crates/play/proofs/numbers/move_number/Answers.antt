@@ -2,7 +2,6 @@
 -- Assumes nothing.
 use Rattle.journal.specs.State.{digit_at, note_at, holds_players_digit, accepts_marks}
 use Rattle.play.specs.Play.{move_tests}
-use borrow.Author.Rules.{rules}
 use Rattle.play.proofs.numbers.move_number.Goals as goal
 
 pub returns-in-Place : goal.returns-in-Place

@@ -5,7 +5,6 @@ use native.Mathlib.Omega.{arith}
 use Rattle.journal.specs.State.{accepts_marks, note_at}
 use Rattle.play.specs.Play.{move_tests}
 use Rattle.play.proofs.Joined.{two_refuse, two_pass}
-use borrow.Author.Rules.{rules}
 use Rattle.play.proofs.numbers.strike_mark_number.Goals as goal
 
 pub returns-then-n-ne0 : goal.returns-then-n-ne0

@@ -5,7 +5,6 @@ use native.Mathlib.Omega.{arith}
 use Rattle.board.specs.Board.{lent_tests}
 use Rattle.play.specs.Play.{latest_number}
 use Rattle.play.proofs.Accepted.{latest_none, latest_part_lem, latest_within, part_latest}
-use borrow.Author.Rules.{rules}
 use Rattle.play.proofs.shown.latest.Goals as goal
 
 pub returns-then-n-ne0 : goal.returns-then-n-ne0

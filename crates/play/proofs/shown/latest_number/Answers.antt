@@ -7,7 +7,6 @@ use Rattle.sudoku.proofs.Walks.{refused}
 use Rattle.board.specs.Board.{lent_tests}
 use Rattle.board.proofs.Numbers.{last_if}
 use Rattle.play.proofs.Joined.{two_refuse, two_pass}
-use borrow.Author.Rules.{rules}
 use Rattle.play.proofs.shown.latest_number.Goals as goal
 
 pub returns-then-lent-ne0 : goal.returns-then-lent-ne0

@@ -5,7 +5,6 @@ use native.Mathlib.Omega.{arith}
 use Rattle.board.specs.Board.{lent_tests}
 use Rattle.play.specs.Play.{next_number}
 use Rattle.play.proofs.Accepted.{next_none, next_part_lem, next_within, part_next}
-use borrow.Author.Rules.{rules}
 use Rattle.play.proofs.shown.next.Goals as goal
 
 pub returns-then-n-ne0 : goal.returns-then-n-ne0

@@ -1,12 +1,11 @@
 -- `play::sound::first_unsound` meets its contract: what is left to test from slot i + 1 on decides.
 -- Assumes nothing.
-use Prim.Native.Nat.{ℕ, ◌≤◌, ◌+◌, ◌-◌}
-use mathlib.Core.Path.{◌≡◌, sym, ap, ◌∙◌}
+use Prim.Native.Nat.{ℕ, ◌+◌, ◌-◌}
+use mathlib.Core.Path.{sym, ap, ◌∙◌}
 use native.Mathlib.Omega.{arith}
 use Rattle.puzzle.specs.Refusals.{first_refused}
 use Rattle.puzzle.proofs.Refusals.{walk_refused, walk_more, walk_all}
 use Rattle.play.specs.Play.{unsound_slot}
-use borrow.Author.Rules.{rules}
 use Rattle.play.proofs.sound.first_unsound.Goals as goal
 
 pub loop-i-init : goal.loop-i-init

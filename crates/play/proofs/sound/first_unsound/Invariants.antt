@@ -1,12 +1,9 @@
 -- `play::sound::first_unsound` meets its contract: what is left to test from slot i + 1 on decides.
 -- Assumes nothing.
-use Prim.Native.Nat.{ℕ, ◌≤◌, ◌+◌, ◌-◌}
-use mathlib.Core.Path.{◌≡◌, sym, ap, ◌∙◌}
-use native.Mathlib.Omega.{arith}
+use Prim.Native.Nat.{◌≤◌, ◌+◌, ◌-◌}
+use mathlib.Core.Path.{◌≡◌}
 use Rattle.puzzle.specs.Refusals.{first_refused}
-use Rattle.puzzle.proofs.Refusals.{walk_refused, walk_more, walk_all}
 use Rattle.play.specs.Play.{unsound_slot}
-use borrow.Author.Rules.{rules}
 use Rattle.play.proofs.sound.first_unsound.Given as goal
 
 abbrev pub invariant-loop-i : goal.invariant-loop-i

@@ -6,7 +6,6 @@ use Rattle.puzzle.proofs.Refusals.{refused_if_lem}
 use Rattle.puzzle.proofs.Accepted.{if_not}
 use Rattle.journal.specs.Slots.{is_sound}
 use Rattle.play.specs.Play.{unsound_slot}
-use borrow.Author.Rules.{rules}
 use Rattle.play.proofs.sound.unsound_slot.Goals as goal
 
 pub returns-then-not-is_sound : goal.returns-then-not-is_sound
