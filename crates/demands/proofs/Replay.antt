@@ -14,7 +14,7 @@ use Rattle.puzzle.specs.Givens.{is_on}
 use Rattle.sudoku.specs.Tests.{first}
 use Rattle.sudoku.proofs.Walks.{by_test, not_both_ways, pick_true, pick_false}
 use Rattle.puzzle.specs.declared.Given.{Given}
-use Rattle.puzzle.specs.Refusals.{refusal, accepted, is_accepted}
+use Rattle.puzzle.specs.Refusals.{accepted, is_accepted}
 use Rattle.journal.specs.declared.Move.{Move}
 use Rattle.journal.specs.declared.Counts.{Counts}
 use Rattle.journal.specs.Limits.{max_moves, slot_bytes, journal_bytes}

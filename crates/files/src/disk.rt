@@ -19,6 +19,10 @@ use texts::{Cells, part};
 pub const FILE_BYTES: usize = 8192;
 // Bytes of the memory that a name is held in: more than any name has that the system takes.
 pub const PATH_MAX: usize = 4096;
+// Bytes behind the path in the new file's name: a full stop and a number.
+const NUMBERED: usize = 7;
+// How many numbers are tried. One is taken where a save was cut off before the new file got its name.
+const NUMBERS: usize = 1000000;
 
 // Why a call failed, in plain words.
 fn reason(error: &Error) {
@@ -218,10 +222,10 @@ fn is_replaceable<R: Files>(rt: &R, path: &[u8]) -> io::Result<()> {
     }
 }
 
-// Bytes behind the path in the new file's name: a full stop and a number.
-const NUMBERED: usize = 7;
-// How many numbers are tried. One is taken where a save was cut off before the new file got its name.
-const NUMBERS: usize = 1000000;
+// The last figure of a number.
+fn figure(n: usize) -> u8 {
+    b'0' + (n % 10) as u8
+}
 
 // Character i of the new file's name: the path, and a number that no other file beside it has.
 fn name_byte(path: &[u8], i: usize, n: usize) -> u8 {
@@ -240,11 +244,6 @@ fn name_byte(path: &[u8], i: usize, n: usize) -> u8 {
     }
 }
 
-// The last figure of a number.
-fn figure(n: usize) -> u8 {
-    b'0' + (n % 10) as u8
-}
-
 // The first `length` characters of the new file's name, with a number.
 fn new_name(path: &[u8], length: usize, n: usize) -> [u8; PATH_MAX]
     requires { length ≤ 4096 }
@@ -260,7 +259,10 @@ fn new_name(path: &[u8], length: usize, n: usize) -> [u8; PATH_MAX]
 
 // Writes all bytes, and waits until they have reached the disk.
 fn is_written<F: Write + OpenFile>(file: &mut F, bytes: &[u8]) -> io::Result<()> {
-    file.set_permissions(Permissions::from_mode(0o644))?; // as other files are: a record is there to be read
+    match file.set_permissions(Permissions::from_mode(0o644)) {
+        // as other files are: a record is there to be read; where the disk keeps no modes, that is no failure
+        Ok(()) | Err(_) => {}
+    }
     file.write_all(bytes)?;
     file.sync_all()
 }
@@ -325,8 +327,8 @@ fn save_as<R: Files>(
     match replace(rt, file, new, path, bytes) {
         Ok(()) => Ok(()),
         Err(error) => match removed(rt, new) {
-            Ok(()) => Err(error),
-            Err(_) => Err(error),
+            // what is told is why the bytes were not saved
+            Ok(()) | Err(_) => Err(error),
         },
     }
 }

@@ -7,12 +7,12 @@ use mathlib.Core.List.{List, ◌++◌}
 use native.Mathlib.Nat.{zero-add}
 use native.Mathlib.Omega.{arith}
 use borrow.Author.Tests.{eq-eqb, ne_eqb, lt-ltb, le-ltb}
-use lib.ListN.{length, take, drop, length-drop}
-use lib.Seq.{take-length, length-take-le}
+use lib.ListN.{length, drop, length-drop}
+use lib.Seq.{length-take-le}
 use Rattle.sudoku.specs.Tests.{first, pick}
 use Rattle.sudoku.proofs.Walks.{pick_true, pick_false}
 use Rattle.puzzle.specs.declared.Refusal.{Refusal}
-use Rattle.puzzle.specs.Refusals.{refusal, accepted}
+use Rattle.puzzle.specs.Refusals.{accepted}
 use Rattle.journal.specs.Limits.{slot_bytes}
 use Rattle.journal.specs.Bytes.{part, over}
 use Rattle.journal.specs.Slots.{slot_part, slot_start}

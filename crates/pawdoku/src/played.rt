@@ -21,13 +21,7 @@ fn made(board: Board, journal: &mut [u8], m: Move) -> Answer
     play::moves::play(board, journal, m)
 }
 
-pub fn pawdoku_place(
-    board: Board,
-    journal: &mut [u8],
-    row: u8,
-    column: u8,
-    digit: u8,
-) -> Answer
+pub fn pawdoku_place(board: Board, journal: &mut [u8], row: u8, column: u8, digit: u8) -> Answer
     ensures value { result ≡ (place_of board journal.old row column digit).answer }
     ensures journal_after { journal.new ≡ (place_of board journal.old row column digit).journal }
 {

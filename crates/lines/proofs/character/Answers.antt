@@ -4,7 +4,6 @@ use Prim.Native.Nat.{ℕ, ◌+◌}
 use mathlib.Core.Path.{sym, ap, ◌∙◌}
 use Rattle.sudoku.proofs.Walks.{pick_true, pick_false}
 use Rattle.lines.specs.Lines.{character_at}
-use borrow.Author.Rules.{rules}
 use Rattle.lines.proofs.character.Goals as goal
 
 pub returns-then-is_given : goal.returns-then-is_given

@@ -1,7 +1,6 @@
 -- `lines::givens_of` meets its contract: the givens laid at the front of 243 zeros.
 -- Assumes nothing.
 use Rattle.lines.specs.Lines.{digits_givens}
-use borrow.Author.Rules.{rules}
 use Rattle.lines.proofs.givens_of.Goals as goal
 
 pub returns : goal.returns

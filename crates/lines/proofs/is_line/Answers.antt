@@ -7,7 +7,6 @@ use lib.Dec.{eqb}
 use lib.ListN.{length}
 use Rattle.sudoku.proofs.Walks.{either_left, either_second, both_first, both_false_left}
 use Rattle.lines.specs.Lines.{line_bytes, is_line}
-use borrow.Author.Rules.{rules}
 use Rattle.lines.proofs.is_line.Goals as goal
 
 pub returns-then-text-eq-LINE_BYTES : goal.returns-then-text-eq-LINE_BYTES

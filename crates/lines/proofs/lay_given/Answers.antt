@@ -13,7 +13,6 @@ use Rattle.journal.specs.Bytes.{over}
 use Rattle.journal.proofs.Memory.{over_nil}
 use Rattle.journal.proofs.Stores.{laid_over, stored}
 use Rattle.lines.specs.Code.Triples.{given_bytes}
-use borrow.Author.Rules.{rules}
 use Rattle.lines.proofs.lay_given.Goals as goal
 
 module _ (digits : List ℕ) (cell digit : ℕ) (e : digit ≡ at digits cell) where

@@ -1,14 +1,13 @@
 -- `lines::lay_givens` meets its contract: what is left to lay.
 -- Assumes nothing.
-use Prim.Native.Nat.{◌≤◌, ◌+◌, ◌-◌}
+use Prim.Native.Nat.{◌+◌}
 use mathlib.Core.Path.{sym, ap, ◌∙◌}
 use native.Mathlib.Omega.{arith}
 use lib.ListN.{length}
 use Rattle.journal.specs.Bytes.{over}
-use Rattle.record.proofs.Laying.{Laying, laying_start, laying_room, laying_more, laying_end}
+use Rattle.record.proofs.Laying.{laying_start, laying_room, laying_more, laying_end}
 use Rattle.lines.specs.Code.Triples.{given_bytes}
 use Rattle.lines.proofs.Reading.{digits_room, digits_left, digits_turn, digits_none, digits_all}
-use borrow.Author.Rules.{rules}
 use Rattle.lines.proofs.lay_givens.Goals as goal
 
 pub loop-cell-init : goal.loop-cell-init

@@ -1,14 +1,8 @@
 -- `lines::lay_givens` meets its contract: what is left to lay.
 -- Assumes nothing.
-use Prim.Native.Nat.{◌≤◌, ◌+◌, ◌-◌}
-use mathlib.Core.Path.{sym, ap, ◌∙◌}
-use native.Mathlib.Omega.{arith}
-use lib.ListN.{length}
-use Rattle.journal.specs.Bytes.{over}
-use Rattle.record.proofs.Laying.{Laying, laying_start, laying_room, laying_more, laying_end}
-use Rattle.lines.specs.Code.Triples.{given_bytes}
-use Rattle.lines.proofs.Reading.{digits_room, digits_left, digits_turn, digits_none, digits_all}
-use borrow.Author.Rules.{rules}
+use Prim.Native.Nat.{◌≤◌, ◌-◌}
+use Rattle.record.proofs.Laying.{Laying}
+use Rattle.lines.proofs.Reading.{digits_left}
 use Rattle.lines.proofs.lay_givens.Given as goal
 
 abbrev pub invariant-loop-cell : goal.invariant-loop-cell

@@ -1,18 +1,17 @@
 -- `lines::lay_line` meets its contract: what is left to lay.
 -- Assumes nothing.
-use Prim.Native.Nat.{◌+◌, ◌-◌, ◌≤◌}
+use Prim.Native.Nat.{◌+◌}
 use mathlib.Core.Path.{refl, ap, ◌∙◌}
 use mathlib.Core.List.{[], ◌∷◌}
 use native.Mathlib.Omega.{arith}
 use lib.ListN.{set}
 use Rattle.sudoku.specs.Tests.{listed}
 use Rattle.sudoku.proofs.Listed.{length_listed}
-use Rattle.record.proofs.Laying.{Laying, laying_start, laying_room, laying_more, laying_end}
+use Rattle.record.proofs.Laying.{laying_start, laying_room, laying_more, laying_end}
 use Rattle.lines.specs.Lines.{character_at}
 use Rattle.journal.proofs.Stores.{one_laid}
 use Rattle.board.proofs.Values.{digit_small}
 use Rattle.lines.proofs.Writing.{characters_left, characters_turn, characters_none}
-use borrow.Author.Rules.{rules}
 use Rattle.lines.proofs.lay_line.Goals as goal
 
 pub loop-i-init : goal.loop-i-init

@@ -4,7 +4,6 @@ use Prim.Native.Nat.{ℕ}
 use mathlib.Core.Path.{ap, ◌∙◌}
 use mathlib.Core.List.{List}
 use Rattle.lines.proofs.Reading.{cells_refused, cells_read}
-use borrow.Author.Rules.{rules}
 use Rattle.lines.proofs.line_cells.Goals as goal
 
 pub returns-then-refused-ne0 : goal.returns-then-refused-ne0

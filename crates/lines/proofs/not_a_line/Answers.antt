@@ -1,9 +1,7 @@
 -- `lines::not_a_line` meets its contract: 36, then 37.
 -- Assumes nothing.
 use mathlib.Core.Path.{sym, ◌∙◌}
-use borrow.Author.Tests.{not-true, not-false}
 use Rattle.lines.proofs.Reading.{no_line, a_line}
-use borrow.Author.Rules.{rules}
 use Rattle.lines.proofs.not_a_line.Goals as goal
 
 pub returns-then-not-is_line : goal.returns-then-not-is_line

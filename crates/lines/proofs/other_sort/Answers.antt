@@ -1,11 +1,9 @@
 -- `lines::other_sort` meets its contract: what is left to test from a character on decides.
 -- Assumes nothing.
-use Prim.Native.Nat.{◌≤◌, ◌-◌}
-use mathlib.Core.Path.{◌≡◌, refl, sym, ap, ◌∙◌}
+use mathlib.Core.Path.{refl, sym, ap, ◌∙◌}
 use native.Mathlib.Omega.{arith}
-use borrow.Author.Rules.{rules}
 use borrow.Author.Tests.{eqb-false}
-use Rattle.puzzle.specs.Refusals.{refusal, accepted, first_refused}
+use Rattle.puzzle.specs.Refusals.{refusal, accepted}
 use Rattle.puzzle.specs.Text.{cell_value}
 use Rattle.puzzle.proofs.Refusals.{walk_refused, walk_more, walk_all}
 use Rattle.lines.specs.Lines.{other_sort}

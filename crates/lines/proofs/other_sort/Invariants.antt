@@ -1,15 +1,9 @@
 -- `lines::other_sort` meets its contract: what is left to test from a character on decides.
 -- Assumes nothing.
 use Prim.Native.Nat.{◌≤◌, ◌-◌}
-use mathlib.Core.Path.{◌≡◌, refl, sym, ap, ◌∙◌}
-use native.Mathlib.Omega.{arith}
-use borrow.Author.Rules.{rules}
-use borrow.Author.Tests.{eqb-false}
-use Rattle.puzzle.specs.Refusals.{refusal, accepted, first_refused}
-use Rattle.puzzle.specs.Text.{cell_value}
-use Rattle.puzzle.proofs.Refusals.{walk_refused, walk_more, walk_all}
+use mathlib.Core.Path.{◌≡◌}
+use Rattle.puzzle.specs.Refusals.{first_refused}
 use Rattle.lines.specs.Lines.{other_sort}
-use Rattle.lines.proofs.Reading.{other_here, other_none}
 use Rattle.lines.proofs.other_sort.Given as goal
 
 abbrev pub invariant-loop-n : goal.invariant-loop-n

@@ -16,7 +16,6 @@ use Rattle.record.specs.Write.{Wrote, wrote}
 use Rattle.lines.specs.declared.LineCells.{LineCells}
 use Rattle.lines.specs.Lines.{line_refusal, values_of, line_cells, line_givens, digits_bytes}
 use Rattle.lines.proofs.Reading.{digits_of_line, no_room, not_read, is_read}
-use borrow.Author.Rules.{rules}
 use Rattle.lines.proofs.read_line.Goals as goal
 
 -- what the cells of a line are where none of 36 and 37 applies, laid as givens

@@ -1,16 +1,15 @@
 -- `lines::values` meets its contract: the entries passed so far are what the characters say.
 -- Assumes nothing.
-use Prim.Native.Nat.{ℕ, ◌+◌, ◌-◌, ◌≤◌}
+use Prim.Native.Nat.{ℕ, ◌+◌, ◌-◌}
 use mathlib.Core.Path.{◌≡◌, refl, ap, ◌∙◌}
 use mathlib.Core.List.{List}
 use native.Mathlib.Omega.{arith}
-use lib.ListN.{length, get_or, set, take, length-set}
+use lib.ListN.{set, take, length-set}
 use Rattle.sudoku.specs.Tests.{listed}
 use Rattle.sudoku.proofs.Listed.{fill_more, fill_all, listed_shift}
 use Rattle.puzzle.specs.Text.{cell_value}
 use Rattle.lines.specs.Lines.{value_at, values_of}
 use Rattle.sudoku.specs.Grid.{at}
-use borrow.Author.Rules.{rules}
 use Rattle.lines.proofs.values.Invariants.{entry}
 use Rattle.lines.proofs.values.Goals as goal
 

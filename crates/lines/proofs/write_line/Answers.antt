@@ -1,13 +1,11 @@
 -- `lines::write_line` meets its contract: 2, then 34, then the line.
 -- Assumes nothing.
 use mathlib.Core.Path.{sym, ap, ◌∙◌}
-use borrow.Author.Tests.{not-true, not-false}
 use Rattle.puzzle.specs.declared.Refusal.{Refusal}
 use Rattle.record.specs.Write.{Wrote, wrote}
 use Rattle.lines.specs.Lines.{line_bytes, line_of}
 use Rattle.board.proofs.Values.{board_digits}
 use Rattle.lines.proofs.Writing.{no_board, no_room, is_written}
-use borrow.Author.Rules.{rules}
 use Rattle.lines.proofs.write_line.Goals as goal
 
 pub returns-then-not-is_board : goal.returns-then-not-is_board

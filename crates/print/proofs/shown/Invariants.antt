@@ -1,7 +1,6 @@
 -- `print::shown` is safe and ends.
 -- Assumes nothing.
 use Prim.Native.Nat.{◌≤◌, ◌-◌}
-use borrow.Author.Rules.{rules}
 use lib.ListN.{length}
 use Rattle.print.proofs.shown.Given as goal
 

@@ -6,7 +6,6 @@ use Rattle.puzzle.specs.Givens.{is_given}
 use Rattle.sudoku.proofs.Walks.{refused, no_if}
 use Rattle.board.proofs.Numbers.{last_if}
 use Rattle.reopen.specs.Code.Reopening.{asked_number}
-use borrow.Author.Rules.{rules}
 use Rattle.reopen.proofs.asked_number.Goals as goal
 
 pub returns-then-not-on_grid : goal.returns-then-not-on_grid

@@ -2,10 +2,8 @@
 -- Assumes nothing.
 use Prim.Native.Nat.{ℕ}
 use mathlib.Core.Path.{ap, ◌∙◌}
-use borrow.Author.Tests.{not-true, not-false}
 use Rattle.journal.specs.StoredChecks.{is_right}
 use Rattle.reopen.proofs.Checking.{refused_31, refused_32, refused_33, wrong_digit, past_33}
-use borrow.Author.Rules.{rules}
 use Rattle.reopen.proofs.check_refusal.Goals as goal
 
 pub returns-then-n-ne0 : goal.returns-then-n-ne0

@@ -6,7 +6,6 @@ use borrow.Author.Tests.{eq-eqb, ne_eqb}
 use Rattle.sudoku.proofs.Walks.{pick_true, pick_false}
 use Rattle.puzzle.specs.Refusals.{refusal}
 use Rattle.reopen.specs.Code.Reopening.{next_refusal}
-use borrow.Author.Rules.{rules}
 use Rattle.reopen.proofs.next_refusal.Goals as goal
 
 pub returns-then-solved-ne0 : goal.returns-then-solved-ne0

@@ -4,7 +4,6 @@ use mathlib.Core.Path.{◌∙◌}
 use native.Mathlib.Omega.{arith}
 use Rattle.journal.specs.StoredChecks.{stored_bytes}
 use Rattle.journal.proofs.Stores.{laid_over}
-use borrow.Author.Rules.{rules}
 use Rattle.reopen.proofs.read_check.Goals as goal
 
 pub returns-then-r-ne0 : goal.returns-then-r-ne0

@@ -1,19 +1,11 @@
 -- `reopen::read_checks` meets its contract: what is left to test, and what is left to store.
 -- Assumes nothing.
-use Prim.Native.Nat.{ℕ, ◌≤◌, ◌+◌, ◌-◌, ◌*◌}
-use mathlib.Core.Path.{◌≡◌, refl, sym, ap, ◌∙◌}
-use mathlib.Core.List.{List}
-use native.Mathlib.Omega.{arith}
+use Prim.Native.Nat.{◌≤◌, ◌+◌, ◌-◌, ◌*◌}
+use mathlib.Core.Path.{◌≡◌}
 use Rattle.journal.specs.Limits.{check_item_bytes, check_bytes}
-use Rattle.journal.specs.Bytes.{over}
-use Rattle.journal.specs.StoredChecks.{stored_bytes, judged}
-use Rattle.journal.proofs.Memory.{stored_length}
-use Rattle.journal.specs.declared.Asked.{Asked}
-use Rattle.record.specs.Code.Counting.{asked_from}
-use Rattle.record.specs.Reopen.{to_play, checks_refusal}
-use Rattle.record.proofs.Laying.{Laying, laying_start, laying_more, laying_end}
-use Rattle.reopen.proofs.Checking.{asks_left, asks_all, stored_of, stored_size, stored_turn, check_stops, check_goes_on, check_ends, stored_ends}
-use borrow.Author.Rules.{rules}
+use Rattle.record.specs.Reopen.{checks_refusal}
+use Rattle.record.proofs.Laying.{Laying}
+use Rattle.reopen.proofs.Checking.{asks_left, stored_of}
 use Rattle.reopen.proofs.read_checks.Given as goal
 
 abbrev pub invariant-loop-k : goal.invariant-loop-k

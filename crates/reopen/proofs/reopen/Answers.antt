@@ -2,10 +2,8 @@
 -- where the record is refused, zeros again and the zero board.
 -- Assumes nothing.
 use mathlib.Core.Path.{refl, sym, ◌∙◌}
-use borrow.Author.Tests.{not-true, not-false}
 use Rattle.board.specs.Open.{lent_lengths}
 use Rattle.reopen.proofs.Settling.{wrong_lent, solution_length, journal_zero, checks_zero, lent_refused, lent_given}
-use borrow.Author.Rules.{rules}
 use Rattle.reopen.proofs.reopen.Goals as goal
 
 pub returns-then-not-lent_lengths : goal.returns-then-not-lent_lengths

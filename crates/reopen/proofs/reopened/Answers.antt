@@ -5,13 +5,11 @@ use native.Mathlib.Omega.{arith}
 use lib.ListN.{length}
 use Rattle.puzzle.specs.declared.Layout.TheVariants.{Items}
 use Rattle.puzzle.specs.Code.GivenBytes.{givens_in}
-use Rattle.puzzle.specs.Code.Rows.{flat}
 use Rattle.puzzle.proofs.Rows.{laid_out}
 use Rattle.board.specs.Board.{fresh}
 use Rattle.record.specs.Code.Counting.{read_record}
 use Rattle.record.proofs.WriteBack.{are_bytes}
 use Rattle.reopen.proofs.Settling.{reopens_refused, reopens_same, no_moves_length, unread, few_moves, few_checks_lem, givens_inside, checks_inside, none_stand, unplayed, plays_on}
-use borrow.Author.Rules.{rules}
 use Rattle.reopen.proofs.reopened.Goals as goal
 
 pub returns-then-unread-ne0 : goal.returns-then-unread-ne0

@@ -1,22 +1,17 @@
 -- `reopen::replay` meets its contract: what is left to perform from the board and the journal as they are decides.
 -- Assumes nothing.
-use Prim.Native.Nat.{ℕ, ◌≤◌, ◌<◌, ◌+◌, ◌-◌, ◌*◌}
-use mathlib.Core.Path.{◌≡◌, refl, sym, ap, ◌∙◌}
-use mathlib.Core.List.{List}
+use Prim.Native.Nat.{ℕ, ◌+◌, ◌-◌}
+use mathlib.Core.Path.{refl, sym, ap, ◌∙◌}
 use native.Mathlib.Omega.{arith}
-use lib.ListN.{length}
 use Rattle.puzzle.specs.declared.Refusal.{Refusal}
 use Rattle.puzzle.specs.Refusals.{accepted}
-use Rattle.journal.specs.declared.Counts.{Counts}
-use Rattle.journal.specs.Limits.{journal_bytes, move_item_bytes}
 use Rattle.board.specs.declared.Board.{Board}
-use Rattle.board.specs.Board.{whole, state_of, counts_of}
+use Rattle.board.specs.Board.{state_of, counts_of}
 use Rattle.board.specs.Open.{answer}
 use Rattle.play.specs.Play.{Played, played}
 use Rattle.record.specs.Reopen.{replay}
 use Rattle.reopen.specs.Code.Reopening.{moves_at}
 use Rattle.reopen.proofs.Replaying.{next_stops, next_made, next_wrote, turn_stops, turn_goes_on, turn_standing, replay_ends}
-use borrow.Author.Rules.{rules}
 use Rattle.reopen.proofs.replay.Invariants.{now-at}
 use Rattle.reopen.proofs.replay.Goals as goal
 

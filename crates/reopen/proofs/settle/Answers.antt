@@ -14,7 +14,6 @@ use Rattle.reopen.proofs.Checking.{asks_length, stored_of}
 use Rattle.reopen.proofs.Settling.{reopens_refused, reopens_given, no_checks_length, settled_30, settled_refused, settled_gives}
 use Prim.Native.Nat.{ℕ}
 use Rattle.journal.specs.Limits.{check_item_bytes}
-use borrow.Author.Rules.{rules}
 use Rattle.reopen.proofs.settle.Goals as goal
 
 pub returns-then-is_undone_solved : goal.returns-then-is_undone_solved

@@ -1,7 +1,6 @@
 -- `reopen::taken_back` meets its contract: the lent parts are the board's.
 -- Assumes nothing.
 use mathlib.Core.Path.{◌∙◌}
-use borrow.Author.Rules.{rules}
 use Rattle.reopen.proofs.taken_back.Goals as goal
 
 pub returns : goal.returns

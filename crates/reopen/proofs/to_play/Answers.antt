@@ -2,7 +2,6 @@
 -- Assumes nothing.
 use native.Mathlib.Omega.{arith}
 use Rattle.reopen.proofs.Checking.{cells_to_play}
-use borrow.Author.Rules.{rules}
 use Rattle.reopen.proofs.to_play.Goals as goal
 
 pub returns : goal.returns

@@ -3,7 +3,6 @@
 use borrow.Author.Tests.{le-leb, lt-leb}
 use Rattle.sudoku.specs.Tests.{pick, both}
 use Rattle.texts.specs.Parts.{part_of}
-use borrow.Author.Rules.{rules}
 use Rattle.texts.proofs.part.Goals as goal
 
 pub returns-then-start-end : goal.returns-then-start-end

@@ -3,7 +3,6 @@
 use mathlib.Core.Path.{◌∙◌}
 use Rattle.play.specs.Code.Parts.{parts}
 use Rattle.undo.proofs.Parts.{again_parts}
-use borrow.Author.Rules.{rules}
 use Rattle.undo.proofs.again_in.Goals as goal
 
 pub returns : goal.returns

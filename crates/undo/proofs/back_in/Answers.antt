@@ -4,7 +4,6 @@ use mathlib.Core.Path.{◌≡◌, refl, sym, ap, ◌∙◌}
 use Prim.Native.Nat.{ℕ}
 use mathlib.Core.Bool.{◌&&◌}
 use mathlib.Core.List.{List}
-use borrow.Author.Tests.{not-true, not-false}
 use Rattle.sudoku.specs.Tests.{pick}
 use Rattle.sudoku.proofs.Walks.{both_left, and_both}
 use Rattle.journal.specs.Slots.{is_sound}
@@ -14,7 +13,6 @@ use Rattle.play.specs.Code.Parts.{parts}
 use Rattle.undo.specs.Code.Halves.{back_if}
 use Rattle.undo.proofs.Parts.{back_parts}
 use Rattle.undo.proofs.Before.{back_unsound, take_back_parts}
-use borrow.Author.Rules.{rules}
 use Rattle.undo.proofs.back_in.Goals as goal
 
 pub returns-then-not-is_sound : goal.returns-then-not-is_sound

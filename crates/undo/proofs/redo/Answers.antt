@@ -3,7 +3,6 @@
 use Prim.Native.Nat.{◌+◌}
 use mathlib.Core.Path.{◌≡◌, sym, ap, ◌∙◌}
 use mathlib.Core.Bool.{not, ◌&&◌}
-use borrow.Author.Tests.{not-true, not-false}
 use Rattle.puzzle.specs.Refusals.{accepted}
 use Rattle.journal.specs.State.{State}
 use Rattle.journal.specs.Counts.{retaken}
@@ -14,7 +13,6 @@ use Rattle.play.specs.Play.{can_retake, redone}
 use Rattle.play.proofs.Accepted.{redo_made}
 use Rattle.undo.proofs.Parts.{again_parts, next_standing}
 use Rattle.undo.proofs.Before.{again_unsound, retake_parts, redo_stopped, redo_unfit, redo_fit, redo_more}
-use borrow.Author.Rules.{rules}
 use Rattle.undo.proofs.redo.Goals as goal
 
 pub returns-then-n-ne0 : goal.returns-then-n-ne0

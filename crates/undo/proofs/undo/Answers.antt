@@ -2,7 +2,6 @@
 -- Assumes nothing.
 use mathlib.Core.Path.{◌≡◌, sym, ap, ◌∙◌}
 use mathlib.Core.Bool.{not, ◌&&◌}
-use borrow.Author.Tests.{not-true, not-false}
 use Rattle.puzzle.specs.Refusals.{accepted}
 use Rattle.journal.specs.State.{State}
 use Rattle.journal.specs.Counts.{taken_back}
@@ -13,7 +12,6 @@ use Rattle.play.specs.Play.{can_take_back, undone}
 use Rattle.play.proofs.Accepted.{undo_made}
 use Rattle.undo.proofs.Parts.{back_parts}
 use Rattle.undo.proofs.Before.{back_unsound, take_back_parts, undo_stopped, undo_unfit, undo_fit}
-use borrow.Author.Rules.{rules}
 use Rattle.undo.proofs.undo.Goals as goal
 
 pub returns-then-n-ne0 : goal.returns-then-n-ne0

@@ -14,7 +14,6 @@ use Rattle.play.proofs.Accepted.{undo_made}
 use Rattle.undo.specs.Code.Halves.{back_if}
 use Rattle.undo.proofs.Parts.{taken_back_made}
 use Rattle.undo.proofs.Before.{undo_stopped, undo_unfit, undo_fit}
-use borrow.Author.Rules.{rules}
 use Rattle.undo.proofs.undo_in.Goals as goal
 
 pub returns-then-undo_number-ne0 : goal.returns-then-undo_number-ne0

@@ -1,6 +1,5 @@
 -- `calls::encoded::decode` meets its contract, move by move.
 -- Assumes nothing.
-use borrow.Author.Rules.{rules}
 use borrow.Author.Tests.{ne_eqb}
 use Rattle.sudoku.specs.Tests.{pick}
 use Rattle.calls.specs.Encoded.{decode}

@@ -4,7 +4,6 @@ use mathlib.Core.Path.{ap}
 use borrow.Author.Tests.{not-true, not-false}
 use Rattle.board.specs.declared.Checked.{Checked}
 use Rattle.commands.proofs.Performing.{no_check_lem, asks}
-use borrow.Author.Rules.{rules}
 use Rattle.commands.proofs.perform.check_command.Goals as goal
 
 pub returns-then-not-n : goal.returns-then-not-n

@@ -5,7 +5,6 @@ use borrow.Author.Tests.{not-true, not-false}
 use Rattle.board.specs.declared.Answer.{Answer}
 use Rattle.commands.specs.Perform.{numbers_of}
 use Rattle.commands.proofs.Performing.{no_move, makes}
-use borrow.Author.Rules.{rules}
 use Rattle.commands.proofs.perform.move_command.Goals as goal
 
 pub returns-then-not-n : goal.returns-then-not-n

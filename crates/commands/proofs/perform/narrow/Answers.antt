@@ -5,7 +5,6 @@ use borrow.Author.Tests.{lt-ltb, le-ltb}
 use lib.Dec.{ltb}
 use Rattle.sudoku.proofs.Walks.{pick_true, pick_false}
 use Rattle.commands.specs.Perform.{narrowed}
-use borrow.Author.Rules.{rules}
 use Rattle.commands.proofs.perform.narrow.Goals as goal
 
 pub returns-then-n-gt255 : goal.returns-then-n-gt255

@@ -1,7 +1,6 @@
 -- `commands::perform::numbered` meets its contract.
 -- Assumes nothing.
 use Rattle.commands.specs.Perform.{numbers_of}
-use borrow.Author.Rules.{rules}
 use Rattle.commands.proofs.perform.numbered.Goals as goal
 
 pub returns : goal.returns

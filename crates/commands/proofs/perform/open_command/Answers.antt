@@ -3,7 +3,6 @@
 use Rattle.calls.specs.Encoded.{session}
 use Rattle.files.specs.Disk.{unread}
 use Rattle.commands.proofs.Performing.{too_few, too_many, loads}
-use borrow.Author.Rules.{rules}
 use Rattle.commands.proofs.perform.open_command.Goals as goal
 
 pub returns-then-command-lt1 : goal.returns-then-command-lt1

@@ -8,7 +8,6 @@ use Rattle.calls.specs.Encoded.{session}
 use Rattle.files.specs.Disk.{unread}
 use Rattle.commands.specs.Perform.{is_move, is_undo}
 use Rattle.commands.proofs.Performing.{not_move, not_undo, by_open, by_puzzle, by_move, by_undo, by_check, by_none, by_other}
-use borrow.Author.Rules.{rules}
 use Rattle.commands.proofs.perform.perform.Goals as goal
 
 pub returns-in-112 : goal.returns-in-112

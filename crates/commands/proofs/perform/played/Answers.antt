@@ -2,7 +2,6 @@
 -- Assumes nothing.
 use Rattle.play.specs.Play.{place_of, erase_of, write_mark_of, strike_mark_of}
 use Rattle.commands.proofs.Performing.{names_place, names_mark, names_strike, names_erase}
-use borrow.Author.Rules.{rules}
 use Rattle.commands.proofs.perform.played.Goals as goal
 
 pub returns-in-112 : goal.returns-in-112

@@ -2,7 +2,6 @@
 -- Assumes nothing.
 use Rattle.calls.specs.Encoded.{session}
 use Rattle.commands.proofs.Performing.{not_two, loads_line}
-use borrow.Author.Rules.{rules}
 use Rattle.commands.proofs.perform.puzzle_command.Goals as goal
 
 pub returns-then-command-ne2 : goal.returns-then-command-ne2

@@ -1,7 +1,6 @@
 -- `commands::perform::taken_up` meets its contract.
 -- Assumes nothing.
 use mathlib.Core.Path.{sym}
-use borrow.Author.Rules.{rules}
 use borrow.Author.Tests.{not-true, not-false}
 use Rattle.sudoku.proofs.Walks.{pick_true, pick_false}
 use Rattle.commands.proofs.perform.taken_up.Goals as goal

@@ -4,7 +4,6 @@ use mathlib.Core.Path.{sym, ◌∙◌}
 use borrow.Author.Tests.{eq-eqb, ne_eqb}
 use Rattle.sudoku.proofs.Walks.{pick_true, pick_false}
 use Rattle.commands.specs.Perform.{third_of}
-use borrow.Author.Rules.{rules}
 use Rattle.commands.proofs.perform.third.Goals as goal
 
 pub returns-then-wanted-eq3 : goal.returns-then-wanted-eq3

@@ -3,7 +3,6 @@
 use mathlib.Core.Path.{ap, ◌∙◌}
 use Rattle.board.specs.declared.Answer.{Answer}
 use Rattle.commands.proofs.Performing.{no_undo, undoes, redoes}
-use borrow.Author.Rules.{rules}
 use Rattle.commands.proofs.perform.undo_command.Goals as goal
 
 pub returns-then-command-ne0 : goal.returns-then-command-ne0

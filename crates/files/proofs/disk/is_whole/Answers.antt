@@ -3,7 +3,6 @@
 use borrow.Author.Tests.{eq-eqb, ne_eqb}
 use Rattle.sudoku.specs.Tests.{both}
 use Rattle.files.specs.Disk.{is_whole}
-use borrow.Author.Rules.{rules}
 use Rattle.files.proofs.disk.is_whole.Goals as goal
 
 pub returns-then-found-ne0 : goal.returns-then-found-ne0

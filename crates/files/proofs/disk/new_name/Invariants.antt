@@ -1,7 +1,6 @@
 -- `files::disk::new_name` is safe and ends.
 -- Assumes nothing.
 use Prim.Native.Nat.{◌≤◌, ◌-◌}
-use borrow.Author.Rules.{rules}
 use lib.ListN.{length}
 use mathlib.Core.Path.{◌≡◌}
 use Rattle.files.proofs.disk.new_name.Given as goal

@@ -1,11 +1,9 @@
 -- `files::disk::read_all` meets its contract, and ends: the turns are counted down.
 -- Assumes nothing.
-use Prim.Native.Nat.{◌≤◌}
 use mathlib.Core.Path.{refl}
 use mathlib.Core.Bool.{true}
 use native.Mathlib.Omega.{arith}
 use Rattle.sudoku.proofs.Walks.{not_both_ways}
-use borrow.Author.Rules.{rules}
 use Rattle.files.proofs.disk.read_all.Goals as goal
 
 pub returns-then-got-eq0 : goal.returns-then-got-eq0

@@ -1,11 +1,6 @@
 -- `files::disk::read_all` meets its contract, and ends: the turns are counted down.
 -- Assumes nothing.
 use Prim.Native.Nat.{◌≤◌}
-use mathlib.Core.Path.{refl}
-use mathlib.Core.Bool.{true}
-use native.Mathlib.Omega.{arith}
-use Rattle.sudoku.proofs.Walks.{not_both_ways}
-use borrow.Author.Rules.{rules}
 use Rattle.files.proofs.disk.read_all.Given as goal
 
 abbrev pub invariant-loop-turns : goal.invariant-loop-turns

@@ -2,7 +2,6 @@
 -- Assumes nothing.
 use Rattle.texts.specs.Parts.{part_of}
 use Rattle.files.specs.Disk.{unread, holding, cells_in}
-use borrow.Author.Rules.{rules}
 use Rattle.files.proofs.disk.read_cells.Goals as goal
 
 pub returns-then-got : goal.returns-then-got

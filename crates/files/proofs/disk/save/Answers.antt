@@ -1,7 +1,6 @@
 -- `files::disk::save` meets its contract.
 -- Assumes nothing.
 use native.Mathlib.Omega.{arith}
-use borrow.Author.Rules.{rules}
 use Rattle.files.proofs.disk.save.Goals as goal
 
 pub returns : goal.returns

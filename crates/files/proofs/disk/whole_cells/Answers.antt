@@ -4,7 +4,6 @@ use mathlib.Core.Path.{sym, ap, ◌∙◌}
 use Rattle.sudoku.proofs.Walks.{pick_true, pick_false}
 use Rattle.texts.specs.Grids.{cells_of}
 use Rattle.files.specs.Disk.{is_whole, whole_cells}
-use borrow.Author.Rules.{rules}
 use Rattle.files.proofs.disk.whole_cells.Goals as goal
 
 pub returns-then-is_whole : goal.returns-then-is_whole

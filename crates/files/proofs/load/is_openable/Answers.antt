@@ -4,7 +4,6 @@ use mathlib.Core.Path.{sym, ap, ◌∙◌}
 use Rattle.sudoku.specs.Tests.{either}
 use Rattle.files.specs.Disk.{is_whole}
 use Rattle.files.specs.Load.{is_openable}
-use borrow.Author.Rules.{rules}
 use Rattle.files.proofs.load.is_openable.Goals as goal
 
 pub returns-then-is_record : goal.returns-then-is_record

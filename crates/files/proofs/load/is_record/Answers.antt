@@ -4,7 +4,6 @@ use mathlib.Core.Path.{sym}
 use borrow.Author.Tests.{le-leb, lt-leb}
 use Rattle.sudoku.specs.Tests.{both}
 use Rattle.files.specs.Load.{is_record}
-use borrow.Author.Rules.{rules}
 use Rattle.files.proofs.load.is_record.Goals as goal
 
 pub returns-then-kind-lt1 : goal.returns-then-kind-lt1

@@ -6,7 +6,6 @@ use Rattle.texts.specs.declared.Cells.{Cells}
 use Rattle.files.specs.Disk.{unread}
 use Rattle.files.specs.Load.{left, stays, load_file}
 use Rattle.files.proofs.Loading.{by_hand, no_solution, by_file}
-use borrow.Author.Rules.{rules}
 use Rattle.files.proofs.load.load.Goals as goal
 
 pub returns-then-solution-eq0 : goal.returns-then-solution-eq0

@@ -1,11 +1,9 @@
 -- `files::load::load_file` meets its contract.
 -- Assumes nothing.
 use mathlib.Core.Path.{sym, ap, ◌∙◌}
-use borrow.Author.Tests.{not-true, not-false}
 use Rattle.sudoku.proofs.Walks.{pick_true, pick_false}
 use Rattle.files.specs.declared.Loaded.{Loaded}
 use Rattle.files.specs.Load.{is_openable, left, stays, load_bytes}
-use borrow.Author.Rules.{rules}
 use Rattle.files.proofs.load.load_file.Goals as goal
 
 pub returns-then-not-is_openable : goal.returns-then-not-is_openable

@@ -4,7 +4,6 @@ use mathlib.Core.Path.{ap, ◌∙◌}
 use Rattle.files.specs.declared.Loaded.{Loaded}
 use Rattle.files.specs.Load.{left}
 use Rattle.files.proofs.Loading.{solution_refused, solution_read}
-use borrow.Author.Rules.{rules}
 use Rattle.files.proofs.load.load_line.Goals as goal
 
 pub returns-then-refused-ne0 : goal.returns-then-refused-ne0

@@ -5,7 +5,6 @@ use Rattle.files.specs.declared.Loaded.{Loaded}
 use Rattle.texts.specs.Parts.{part_of}
 use Rattle.files.specs.Disk.{unread, holding}
 use Rattle.files.specs.Load.{left, stays, load_file}
-use borrow.Author.Rules.{rules}
 use Rattle.files.proofs.load.load_with.Goals as goal
 
 pub returns-then-not-got : goal.returns-then-not-got

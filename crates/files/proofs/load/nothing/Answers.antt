@@ -1,7 +1,6 @@
 -- `files::load::nothing` meets its contract.
 -- Assumes nothing.
 use Rattle.files.specs.Load.{nothing_loaded}
-use borrow.Author.Rules.{rules}
 use Rattle.files.proofs.load.nothing.Goals as goal
 
 pub returns : goal.returns

@@ -4,7 +4,6 @@ use mathlib.Core.Path.{◌∙◌}
 use Rattle.board.specs.Open.{no_moves, no_checks}
 use Rattle.files.specs.Load.{open_bytes, open_apart}
 use Rattle.files.proofs.Loading.{given_apart}
-use borrow.Author.Rules.{rules}
 use Rattle.files.proofs.load.open_apart.Goals as goal
 
 pub returns : goal.returns

@@ -3,7 +3,6 @@
 use mathlib.Core.Path.{sym, ◌∙◌}
 use Rattle.sudoku.proofs.Walks.{pick_true, pick_false}
 use Rattle.files.specs.Load.{open_bytes}
-use borrow.Author.Rules.{rules}
 use Rattle.files.proofs.load.open_bytes.Goals as goal
 
 pub returns-then-is_record : goal.returns-then-is_record

@@ -1,6 +1,5 @@
 -- `files::load::open_givens` meets its contract.
 -- Assumes nothing.
-use borrow.Author.Rules.{rules}
 use Rattle.files.proofs.load.open_givens.Goals as goal
 
 pub returns : goal.returns

@@ -4,7 +4,6 @@ use mathlib.Core.Path.{◌∙◌}
 use Rattle.board.specs.Open.{no_moves, no_checks, open_of}
 use Rattle.texts.specs.Parts.{part_of}
 use Rattle.files.proofs.Loading.{given_apart}
-use borrow.Author.Rules.{rules}
 use Rattle.files.proofs.load.open_givens_apart.Goals as goal
 
 pub returns : goal.returns

@@ -1,7 +1,6 @@
 -- `files::load::open_puzzle` meets its contract.
 -- Assumes nothing.
 use Rattle.files.proofs.Loading.{givens_front}
-use borrow.Author.Rules.{rules}
 use Rattle.files.proofs.load.open_puzzle.Goals as goal
 
 pub returns : goal.returns

@@ -1,6 +1,5 @@
 -- `pawdoku::grid::pawdoku_note_digits` meets its contract.
 -- Assumes nothing.
-use borrow.Author.Rules.{rules}
 use Rattle.pawdoku.specs.Library.{digits_in}
 use Rattle.pawdoku.proofs.grid.pawdoku_note_digits.Goals as goal
 

@@ -1,6 +1,5 @@
 -- `pawdoku::grid::pawdoku_peers` meets its contract.
 -- Assumes nothing.
-use borrow.Author.Rules.{rules}
 use Rattle.pawdoku.specs.Library.{peer_cells}
 use Rattle.pawdoku.proofs.grid.pawdoku_peers.Goals as goal
 

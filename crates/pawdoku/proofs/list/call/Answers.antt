@@ -1,7 +1,6 @@
 -- `pawdoku::list::call` meets its contract, call by call.
 -- Assumes nothing.
 use Rattle.calls.proofs.Running.{makes, undoes, redoes, checks_it, answers_it}
-use borrow.Author.Rules.{rules}
 use Rattle.pawdoku.proofs.list.call.Goals as goal
 
 pub returns-in-Make : goal.returns-in-Make

@@ -1,7 +1,6 @@
 -- `pawdoku::list::decode_at` meets its contract.
 -- Assumes nothing.
 use Rattle.calls.specs.Encoded.{decode_at}
-use borrow.Author.Rules.{rules}
 use Rattle.pawdoku.proofs.list.decode_at.Goals as goal
 
 pub returns : goal.returns

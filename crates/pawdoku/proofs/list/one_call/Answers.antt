@@ -4,7 +4,6 @@ use mathlib.Core.Path.{refl}
 use Rattle.calls.specs.Encoded.{run_one}
 use Rattle.calls.specs.Code.Running.{run_at}
 use Rattle.calls.proofs.Running.{answers_it}
-use borrow.Author.Rules.{rules}
 use Rattle.pawdoku.proofs.list.one_call.Goals as goal
 
 pub returns-in_default : goal.returns-in_default

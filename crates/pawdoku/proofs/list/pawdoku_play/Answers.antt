@@ -1,11 +1,9 @@
 -- `pawdoku::list::pawdoku_play` meets its contract: what is left of the run is run from what the last call left.
 -- Assumes nothing.
-use Prim.Native.Nat.{◌≤◌, ◌-◌}
-use mathlib.Core.Path.{◌≡◌, refl, sym, ◌∙◌}
+use mathlib.Core.Path.{refl, sym, ◌∙◌}
 use native.Mathlib.Nat.{sub-zero}
 use native.Mathlib.Omega.{arith}
-use lib.ListN.{length}
-use Rattle.calls.specs.Encoded.{session, run_from, run_of}
+use Rattle.calls.specs.Encoded.{run_of}
 use Rattle.calls.proofs.Running.{run_more, run_all}
 use borrow.Author.Rules.{rules}
 use Rattle.pawdoku.proofs.list.pawdoku_play.Goals as goal

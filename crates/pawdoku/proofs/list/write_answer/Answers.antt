@@ -6,7 +6,6 @@ use lib.ListN.{length-set}
 use Rattle.journal.specs.Bytes.{low, second}
 use Rattle.journal.proofs.Stores.{stored, laid_over}
 use Rattle.calls.specs.Encoded.{answer_bytes}
-use borrow.Author.Rules.{rules}
 use Rattle.pawdoku.proofs.list.write_answer.Goals as goal
 
 pub bounds-answers-start-2 : goal.bounds-answers-start-2

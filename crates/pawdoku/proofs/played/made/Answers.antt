@@ -1,7 +1,6 @@
 -- `pawdoku::played::made` meets its contract.
 -- Assumes nothing.
 use mathlib.Core.Path.{sym, ap, ◌∙◌}
-use borrow.Author.Rules.{rules}
 use Rattle.puzzle.specs.declared.Refusal.{Refusal}
 use Rattle.board.specs.Open.{answer}
 use Rattle.play.specs.Play.{Played}

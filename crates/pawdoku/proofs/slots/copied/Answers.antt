@@ -1,6 +1,5 @@
 -- `pawdoku::slots::copied` meets its contract.
 -- Assumes nothing.
-use borrow.Author.Rules.{rules}
 use mathlib.Core.Path.{ap}
 use Rattle.pawdoku.specs.Library.{Showing}
 use Rattle.pawdoku.proofs.Showing.{shown_short, shown_copied}

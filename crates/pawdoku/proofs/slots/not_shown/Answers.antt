@@ -1,6 +1,5 @@
 -- `pawdoku::slots::not_shown` meets its contract.
 -- Assumes nothing.
-use borrow.Author.Rules.{rules}
 use Rattle.pawdoku.specs.Library.{not_shown}
 use Rattle.pawdoku.proofs.slots.not_shown.Goals as goal
 

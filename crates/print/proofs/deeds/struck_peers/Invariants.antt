@@ -1,7 +1,6 @@
 -- `print::deeds::struck_peers` is safe and ends.
 -- Assumes nothing.
 use Prim.Native.Nat.{◌≤◌, ◌-◌}
-use borrow.Author.Rules.{rules}
 use Rattle.print.proofs.deeds.struck_peers.Given as goal
 
 abbrev pub invariant-loop-i : goal.invariant-loop-i

@@ -2,7 +2,6 @@
 -- Assumes nothing.
 use Prim.Native.Nat.{◌≤◌, ◌-◌}
 use Rattle.screen.specs.Picture.{size}
-use borrow.Author.Rules.{rules}
 use Rattle.print.proofs.drawing.paint.Given as goal
 
 abbrev pub invariant-loop-n : goal.invariant-loop-n

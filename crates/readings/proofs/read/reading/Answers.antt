@@ -4,7 +4,6 @@ use mathlib.Core.Path.{sym, ap, ◌∙◌}
 use Rattle.puzzle.specs.declared.Refusal.{Refusal}
 use Rattle.readings.specs.Reading.{no_reading}
 use Rattle.readings.proofs.Refused.{not_read, is_read}
-use borrow.Author.Rules.{rules}
 use Rattle.readings.proofs.read.reading.Goals as goal
 
 pub returns-then-refused-ne0 : goal.returns-then-refused-ne0

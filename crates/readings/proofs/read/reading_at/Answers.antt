@@ -3,7 +3,6 @@
 use lib.Dec.{ltb}
 use Rattle.board.specs.Board.{board_of, moved}
 use Rattle.readings.specs.Reading.{board_after, reading}
-use borrow.Author.Rules.{rules}
 use Rattle.readings.proofs.read.reading_at.Goals as goal
 
 pub returns : goal.returns

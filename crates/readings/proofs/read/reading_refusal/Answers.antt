@@ -5,7 +5,6 @@ use Rattle.puzzle.specs.declared.Refusal.{Refusal}
 use Rattle.play.proofs.Accepted.{lent_refuses, slots_decide}
 use Rattle.readings.specs.Reading.{reading_refusal}
 use Rattle.readings.proofs.Refused.{none_read, beyond_made, was_made, by_slots, by_35, by_none}
-use borrow.Author.Rules.{rules}
 use Rattle.readings.proofs.read.reading_refusal.Goals as goal
 
 pub returns-then-n-ne0 : goal.returns-then-n-ne0

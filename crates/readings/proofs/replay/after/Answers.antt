@@ -1,6 +1,6 @@
 -- `readings::replay::after` meets its contract: what is left to apply from slot i + 1 on leads to the same state.
 -- Assumes nothing.
-use Prim.Native.Nat.{ℕ, ◌≤◌, ◌+◌, ◌-◌}
+use Prim.Native.Nat.{ℕ, ◌+◌, ◌-◌}
 use mathlib.Core.Path.{◌≡◌, refl, sym, ap, ◌∙◌}
 use native.Mathlib.Omega.{arith}
 use Rattle.sudoku.specs.Tests.{run}
@@ -12,7 +12,6 @@ use Rattle.board.specs.declared.Board.{Board}
 use Rattle.board.specs.Board.{state_of, counts_of, board_of, moved}
 use Rattle.play.specs.Code.Parts.{parts}
 use Rattle.readings.specs.Reading.{opening_of, opening_board, apply_slot, state_after, board_after}
-use borrow.Author.Rules.{rules}
 use Rattle.readings.proofs.replay.after.Goals as goal
 
 -- what the opening board is: its state, and the rest of the board as it came

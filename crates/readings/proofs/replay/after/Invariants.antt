@@ -1,18 +1,11 @@
 -- `readings::replay::after` meets its contract: what is left to apply from slot i + 1 on leads to the same state.
 -- Assumes nothing.
-use Prim.Native.Nat.{ℕ, ◌≤◌, ◌+◌, ◌-◌}
-use mathlib.Core.Path.{◌≡◌, refl, sym, ap, ◌∙◌}
-use native.Mathlib.Omega.{arith}
+use Prim.Native.Nat.{◌≤◌, ◌+◌, ◌-◌}
+use mathlib.Core.Path.{◌≡◌}
 use Rattle.sudoku.specs.Tests.{run}
-use Rattle.sudoku.proofs.Walks.{run_more, run_all}
-use Rattle.journal.specs.declared.Slot.{Slot}
-use Rattle.journal.specs.State.{State, perform_again}
-use Rattle.journal.specs.Slots.{move_of}
-use Rattle.board.specs.declared.Board.{Board}
-use Rattle.board.specs.Board.{state_of, counts_of, board_of, moved}
+use Rattle.board.specs.Board.{state_of}
 use Rattle.play.specs.Code.Parts.{parts}
-use Rattle.readings.specs.Reading.{opening_of, opening_board, apply_slot, state_after, board_after}
-use borrow.Author.Rules.{rules}
+use Rattle.readings.specs.Reading.{apply_slot}
 use Rattle.readings.proofs.replay.after.Given as goal
 
 abbrev pub invariant-loop-i : goal.invariant-loop-i

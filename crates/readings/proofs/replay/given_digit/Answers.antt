@@ -2,7 +2,6 @@
 -- Assumes nothing.
 use mathlib.Core.Path.{sym, ◌∙◌}
 use Rattle.sudoku.proofs.Walks.{pick_true, pick_false}
-use borrow.Author.Rules.{rules}
 use Rattle.readings.proofs.replay.given_digit.Goals as goal
 
 pub returns-then-is_given : goal.returns-then-is_given

@@ -1,15 +1,11 @@
 -- `readings::replay::given_digits` meets its contract: the entries passed so far are the digits of givens.
 -- Assumes nothing.
-use Prim.Native.Nat.{ℕ, ◌≤◌, ◌+◌, ◌-◌}
-use mathlib.Core.Path.{◌≡◌, refl, ap, ◌∙◌}
-use mathlib.Core.List.{List}
+use Prim.Native.Nat.{ℕ, ◌+◌}
+use mathlib.Core.Path.{refl, ap, ◌∙◌}
 use native.Mathlib.Omega.{arith}
-use lib.ListN.{length, take, set, length-set}
-use Rattle.puzzle.specs.Givens.{is_given}
-use Rattle.sudoku.specs.Tests.{pick, listed}
-use Rattle.sudoku.specs.Grid.{at}
+use lib.ListN.{take, set, length-set}
+use Rattle.sudoku.specs.Tests.{listed}
 use Rattle.sudoku.proofs.Listed.{fill_more, fill_all, listed_shift}
-use borrow.Author.Rules.{rules}
 use Rattle.readings.proofs.replay.given_digits.Invariants.{digitOf}
 use Rattle.readings.proofs.replay.given_digits.Goals as goal
 

@@ -2,7 +2,6 @@
 -- Assumes nothing.
 use Rattle.board.specs.Board.{counts_of, board_of, moved}
 use Rattle.readings.specs.Reading.{opening_of, opening_board}
-use borrow.Author.Rules.{rules}
 use Rattle.readings.proofs.replay.opening.Goals as goal
 
 pub returns : goal.returns

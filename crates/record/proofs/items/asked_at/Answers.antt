@@ -7,7 +7,6 @@ use lib.ListN.{get_or}
 use Rattle.journal.specs.Bytes.{two}
 use Rattle.record.specs.Code.Counting.{asked_from}
 use Rattle.record.proofs.KindBytes.{same_behind}
-use borrow.Author.Rules.{rules}
 use Rattle.record.proofs.items.asked_at.Goals as goal
 
 pub returns : goal.returns

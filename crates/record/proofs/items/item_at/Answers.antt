@@ -4,7 +4,6 @@ use Prim.Native.Nat.{◌+◌}
 use mathlib.Core.Path.{◌≡◌}
 use native.Mathlib.Omega.{arith}
 use Rattle.record.specs.Code.Counting.{item_of}
-use borrow.Author.Rules.{rules}
 use Rattle.record.proofs.items.item_at.Goals as goal
 
 pub returns-in-Givens : goal.returns-in-Givens

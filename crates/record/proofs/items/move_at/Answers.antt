@@ -4,7 +4,6 @@ use mathlib.Core.Path.{◌∙◌}
 use Rattle.journal.specs.Slots.{move_of}
 use Rattle.record.specs.Code.Counting.{move_at}
 use Rattle.record.proofs.KindBytes.{same_here, same_behind}
-use borrow.Author.Rules.{rules}
 use Rattle.record.proofs.items.move_at.Goals as goal
 
 pub returns : goal.returns

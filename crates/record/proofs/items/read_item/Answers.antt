@@ -4,7 +4,6 @@
 use mathlib.Core.Path.{sym, ap, ◌∙◌}
 use Rattle.record.specs.Code.Counting.{shape_of}
 use Rattle.record.proofs.KindBytes.{read_past, read_short, read_whole}
-use borrow.Author.Rules.{rules}
 use Rattle.record.proofs.items.read_item.Goals as goal
 
 pub returns-then-at-bytes : goal.returns-then-at-bytes

@@ -3,7 +3,6 @@
 use mathlib.Core.Path.{◌∙◌}
 use Prim.Native.Nat.{◌+◌, ◌*◌}
 use Rattle.journal.specs.Bytes.{two}
-use borrow.Author.Rules.{rules}
 use Rattle.record.proofs.items.two_at.Goals as goal
 
 pub returns : goal.returns

@@ -4,7 +4,6 @@ use mathlib.Core.Path.{sym}
 use borrow.Author.Tests.{eq-eqb, ne_eqb}
 use Rattle.sudoku.proofs.Walks.{pick_true, pick_false}
 use Rattle.record.specs.Code.Counting.{check_step}
-use borrow.Author.Rules.{rules}
 use Rattle.record.proofs.scan.check_step.Goals as goal
 
 pub returns-then-state-ne2 : goal.returns-then-state-ne2

@@ -4,7 +4,6 @@ use mathlib.Core.Path.{sym}
 use borrow.Author.Tests.{eq-eqb, ne_eqb}
 use Rattle.sudoku.proofs.Walks.{pick_true, pick_false}
 use Rattle.record.specs.Code.Counting.{given_step}
-use borrow.Author.Rules.{rules}
 use Rattle.record.proofs.scan.given_step.Goals as goal
 
 pub returns-then-state-ne0 : goal.returns-then-state-ne0

@@ -3,7 +3,6 @@
 use mathlib.Core.Path.{sym, ap, ◌∙◌}
 use Rattle.record.specs.declared.Item.{Item}
 use Rattle.record.specs.Code.Counting.{item_step}
-use borrow.Author.Rules.{rules}
 use Rattle.record.proofs.scan.item_step.Goals as goal
 
 pub returns-in-Given : goal.returns-in-Given

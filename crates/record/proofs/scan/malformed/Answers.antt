@@ -2,7 +2,6 @@
 -- Assumes nothing.
 use mathlib.Core.Path.{ap, ◌∙◌}
 use Rattle.record.specs.Code.Counting.{refused_by, malformed_at}
-use borrow.Author.Rules.{rules}
 use Rattle.record.proofs.scan.malformed.Goals as goal
 
 pub returns : goal.returns

@@ -8,7 +8,6 @@ use Rattle.puzzle.specs.Refusals.{refusal}
 use Rattle.puzzle.proofs.Accepted.{if_not}
 use Rattle.puzzle.proofs.Refusals.{refused_if_lem, or_else_by, or_else_past}
 use Rattle.record.specs.Code.Counting.{miscounted_by}
-use borrow.Author.Rules.{rules}
 use Rattle.record.proofs.scan.miscounted.Goals as goal
 
 pub returns-then-s : goal.returns-then-s

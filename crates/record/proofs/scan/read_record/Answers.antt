@@ -3,7 +3,6 @@
 use mathlib.Core.Path.{◌∙◌}
 use Rattle.puzzle.specs.Code.Rows.{flat}
 use Rattle.record.proofs.ReadRecord.{not_read, is_read}
-use borrow.Author.Rules.{rules}
 use Rattle.record.proofs.scan.read_record.Goals as goal
 
 pub returns-then-r-ne0 : goal.returns-then-r-ne0

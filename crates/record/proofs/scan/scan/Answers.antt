@@ -1,14 +1,12 @@
 -- `record::scan::scan` meets its contract. The invariant: what is left
 -- to read makes of the counts so far what the whole record counts.
 -- Assumes nothing.
-use mathlib.Core.Path.{◌≡◌, sym, ◌∙◌}
-use Prim.Native.Nat.{◌-◌}
+use mathlib.Core.Path.{sym, ◌∙◌}
 use native.Mathlib.Omega.{arith}
 use borrow.Author.Tests.{eq-eqb, ne_eqb}
 use lib.ListN.{length}
-use Rattle.record.specs.Code.Counting.{scanned, scanned_of}
-use Rattle.record.proofs.Scanning.{left, scan_from, scan_start, Going, going_room, goes_on, turn_stops, turn_goes_on, ends_early, ends_well}
-use borrow.Author.Rules.{rules}
+use Rattle.record.specs.Code.Counting.{scanned}
+use Rattle.record.proofs.Scanning.{scan_start, going_room, goes_on, turn_stops, turn_goes_on, ends_early, ends_well}
 use Rattle.record.proofs.scan.scan.Goals as goal
 
 pub loop-state-init : goal.loop-state-init

@@ -1,14 +1,11 @@
 -- `record::scan::scan` meets its contract. The invariant: what is left
 -- to read makes of the counts so far what the whole record counts.
 -- Assumes nothing.
-use mathlib.Core.Path.{◌≡◌, sym, ◌∙◌}
+use mathlib.Core.Path.{◌≡◌}
 use Prim.Native.Nat.{◌-◌}
-use native.Mathlib.Omega.{arith}
-use borrow.Author.Tests.{eq-eqb, ne_eqb}
 use lib.ListN.{length}
-use Rattle.record.specs.Code.Counting.{scanned, scanned_of}
-use Rattle.record.proofs.Scanning.{left, scan_from, scan_start, Going, going_room, goes_on, turn_stops, turn_goes_on, ends_early, ends_well}
-use borrow.Author.Rules.{rules}
+use Rattle.record.specs.Code.Counting.{scanned_of}
+use Rattle.record.proofs.Scanning.{left, scan_from, Going}
 use Rattle.record.proofs.scan.scan.Given as goal
 
 abbrev pub invariant-loop-state : goal.invariant-loop-state

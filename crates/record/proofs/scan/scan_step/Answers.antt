@@ -2,7 +2,6 @@
 -- Assumes nothing.
 use mathlib.Core.Path.{sym, ap, ◌∙◌}
 use Rattle.record.specs.Code.Counting.{read_step, step_of}
-use borrow.Author.Rules.{rules}
 use Rattle.record.proofs.scan.scan_step.Goals as goal
 
 pub returns-in_default : goal.returns-in_default

@@ -4,7 +4,6 @@ use mathlib.Core.Path.{sym}
 use borrow.Author.Tests.{le-leb, lt-leb}
 use Rattle.sudoku.proofs.Walks.{pick_true, pick_false}
 use Rattle.record.specs.Code.Counting.{undone_step}
-use borrow.Author.Rules.{rules}
 use Rattle.record.proofs.scan.undone_step.Goals as goal
 
 pub returns-then-state-gt1 : goal.returns-then-state-gt1

@@ -3,11 +3,9 @@
 -- Assumes nothing.
 use mathlib.Core.Path.{sym, ◌∙◌}
 use native.Mathlib.Omega.{arith}
-use borrow.Author.Tests.{not-true, not-false}
 use Rattle.puzzle.specs.Code.Rows.{flat}
 use Rattle.record.proofs.WriteBack.{are_bytes}
 use Rattle.record.proofs.ReadRecord.{refused_17, refused_18, refused_19, refused_20, past_21}
-use borrow.Author.Rules.{rules}
 use Rattle.record.proofs.scan.unreadable.Goals as goal
 
 pub returns-then-order-ne0 : goal.returns-then-order-ne0

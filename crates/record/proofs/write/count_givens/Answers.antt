@@ -1,14 +1,12 @@
 -- `record::write::count_givens` meets its contract: what was counted so far, and what is left.
 -- Assumes nothing.
-use Prim.Native.Nat.{◌≤◌, ◌<◌, ◌+◌, ◌-◌}
-use mathlib.Core.Path.{◌≡◌, sym, ◌∙◌}
-use mathlib.Core.Logic.{⊎_elim}
+use Prim.Native.Nat.{◌<◌}
+use mathlib.Core.Path.{sym, ◌∙◌}
 use native.Mathlib.Nat.{zero-add, add-zero}
 use native.Mathlib.Omega.{arith}
 use Rattle.puzzle.specs.Givens.{is_given}
 use Rattle.sudoku.specs.Tests.{count}
 use Rattle.sudoku.proofs.Walks.{count_more, count_skips, count_all}
-use borrow.Author.Rules.{rules}
 use Rattle.record.proofs.write.count_givens.Goals as goal
 use Rattle.record.proofs.write.count_givens.Goals.{then-is_given, else-is_given}
 

@@ -1,14 +1,9 @@
 -- `record::write::count_givens` meets its contract: what was counted so far, and what is left.
 -- Assumes nothing.
 use Prim.Native.Nat.{◌≤◌, ◌<◌, ◌+◌, ◌-◌}
-use mathlib.Core.Path.{◌≡◌, sym, ◌∙◌}
-use mathlib.Core.Logic.{⊎_elim}
-use native.Mathlib.Nat.{zero-add, add-zero}
-use native.Mathlib.Omega.{arith}
+use mathlib.Core.Path.{◌≡◌}
 use Rattle.puzzle.specs.Givens.{is_given}
 use Rattle.sudoku.specs.Tests.{count}
-use Rattle.sudoku.proofs.Walks.{count_more, count_skips, count_all}
-use borrow.Author.Rules.{rules}
 use Rattle.record.proofs.write.count_givens.Given as goal
 
 abbrev pub invariant-loop-cell : goal.invariant-loop-cell

@@ -8,7 +8,6 @@ use Rattle.journal.specs.declared.Asked.{Asked}
 use Rattle.journal.specs.Bytes.{over, low, second}
 use Rattle.record.specs.Items.{encode, check_item}
 use Rattle.record.proofs.Laying.{six_laid}
-use borrow.Author.Rules.{rules}
 use Rattle.record.proofs.write.lay_check.Goals as goal
 
 pub returns : goal.returns

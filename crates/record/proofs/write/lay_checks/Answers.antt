@@ -1,14 +1,13 @@
 -- `record::write::lay_checks` meets its contract: what is left to lay.
 -- Assumes nothing.
-use Prim.Native.Nat.{◌≤◌, ◌+◌, ◌-◌}
+use Prim.Native.Nat.{◌+◌}
 use mathlib.Core.Path.{sym, ap, ◌∙◌}
 use native.Mathlib.Omega.{arith}
 use lib.ListN.{length}
 use Rattle.journal.specs.StoredChecks.{asked_at}
 use Rattle.journal.specs.Bytes.{over}
 use Rattle.record.specs.Items.{encode, check_item}
-use Rattle.record.proofs.Laying.{Laying, laying_start, laying_room, laying_more, laying_end, items_left, items_turn, items_none, checks_left}
-use borrow.Author.Rules.{rules}
+use Rattle.record.proofs.Laying.{laying_start, laying_room, laying_more, laying_end, items_left, items_turn, items_none, checks_left}
 use Rattle.record.proofs.write.lay_checks.Goals as goal
 
 pub loop-n-init : goal.loop-n-init

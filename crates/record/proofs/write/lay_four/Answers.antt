@@ -5,7 +5,6 @@ use mathlib.Core.List.{[], ◌∷◌}
 use native.Mathlib.Omega.{arith}
 use lib.ListN.{length-set}
 use Rattle.journal.proofs.Stores.{laid_over, stored}
-use borrow.Author.Rules.{rules}
 use Rattle.record.proofs.write.lay_four.Goals as goal
 
 pub bounds-output-at-2 : goal.bounds-output-at-2

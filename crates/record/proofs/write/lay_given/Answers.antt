@@ -4,7 +4,6 @@ use Prim.Native.Nat.{ℕ, ◌+◌}
 use mathlib.Core.Path.{◌≡◌, sym, ap, ◌∙◌}
 use mathlib.Core.List.{List, [], ◌∷◌}
 use native.Mathlib.Omega.{arith}
-use borrow.Author.Tests.{not-true, not-false}
 use lib.ListN.{length}
 use Rattle.puzzle.specs.Givens.{is_given}
 use Rattle.sudoku.specs.Grid.{at, row_of, column_of}
@@ -12,7 +11,6 @@ use Rattle.sudoku.proofs.Walks.{pick_true, pick_false}
 use Rattle.journal.specs.Bytes.{over}
 use Rattle.journal.proofs.Memory.{over_nil}
 use Rattle.record.specs.Code.Laying.{given_bytes}
-use borrow.Author.Rules.{rules}
 use Rattle.record.proofs.write.lay_given.Goals as goal
 
 pub returns-then-not-is_given : goal.returns-then-not-is_given

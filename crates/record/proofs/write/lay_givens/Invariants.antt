@@ -1,13 +1,7 @@
 -- `record::write::lay_givens` meets its contract: what is left to lay.
 -- Assumes nothing.
-use Prim.Native.Nat.{◌≤◌, ◌+◌, ◌-◌}
-use mathlib.Core.Path.{sym, ap, ◌∙◌}
-use native.Mathlib.Omega.{arith}
-use lib.ListN.{length}
-use Rattle.journal.specs.Bytes.{over}
-use Rattle.record.specs.Code.Laying.{given_bytes}
-use Rattle.record.proofs.Laying.{Laying, laying_start, laying_room, laying_more, laying_end, givens_left, givens_turn, givens_none, givens_all}
-use borrow.Author.Rules.{rules}
+use Prim.Native.Nat.{◌≤◌, ◌-◌}
+use Rattle.record.proofs.Laying.{Laying, givens_left}
 use Rattle.record.proofs.write.lay_givens.Given as goal
 
 abbrev pub invariant-loop-cell : goal.invariant-loop-cell

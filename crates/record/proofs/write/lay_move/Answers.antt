@@ -8,7 +8,6 @@ use Rattle.journal.specs.declared.Move.{Move}
 use Rattle.journal.specs.Bytes.{over}
 use Rattle.record.specs.declared.Item.TheVariants.{Played}
 use Rattle.record.specs.Items.{encode}
-use borrow.Author.Rules.{rules}
 use Rattle.record.proofs.write.lay_move.Goals as goal
 
 pub lay_four-requires : goal.lay_four-requires

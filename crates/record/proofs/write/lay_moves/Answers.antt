@@ -1,6 +1,6 @@
 -- `record::write::lay_moves` meets its contract: what is left to lay.
 -- Assumes nothing.
-use Prim.Native.Nat.{◌≤◌, ◌+◌, ◌-◌}
+use Prim.Native.Nat.{◌+◌}
 use mathlib.Core.Path.{sym, ap, ◌∙◌}
 use native.Mathlib.Omega.{arith}
 use lib.ListN.{length}
@@ -9,8 +9,7 @@ use Rattle.journal.specs.Bytes.{over}
 use Rattle.journal.specs.Slots.{move_of}
 use Rattle.record.specs.declared.Item.TheVariants.{Played}
 use Rattle.record.specs.Items.{encode}
-use Rattle.record.proofs.Laying.{Laying, laying_start, laying_room, laying_more, laying_end, items_left, items_turn, items_none, move_in, moves_left}
-use borrow.Author.Rules.{rules}
+use Rattle.record.proofs.Laying.{laying_start, laying_room, laying_more, laying_end, items_left, items_turn, items_none, move_in, moves_left}
 use Rattle.record.proofs.write.lay_moves.Goals as goal
 
 pub loop-n-init : goal.loop-n-init

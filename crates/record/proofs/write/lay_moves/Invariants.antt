@@ -1,16 +1,8 @@
 -- `record::write::lay_moves` meets its contract: what is left to lay.
 -- Assumes nothing.
 use Prim.Native.Nat.{◌≤◌, ◌+◌, ◌-◌}
-use mathlib.Core.Path.{sym, ap, ◌∙◌}
-use native.Mathlib.Omega.{arith}
-use lib.ListN.{length}
-use Rattle.journal.specs.declared.Move.{Move}
-use Rattle.journal.specs.Bytes.{over}
-use Rattle.journal.specs.Slots.{move_of}
 use Rattle.record.specs.declared.Item.TheVariants.{Played}
-use Rattle.record.specs.Items.{encode}
-use Rattle.record.proofs.Laying.{Laying, laying_start, laying_room, laying_more, laying_end, items_left, items_turn, items_none, move_in, moves_left}
-use borrow.Author.Rules.{rules}
+use Rattle.record.proofs.Laying.{Laying, items_left, move_in}
 use Rattle.record.proofs.write.lay_moves.Given as goal
 
 abbrev pub invariant-loop-n : goal.invariant-loop-n

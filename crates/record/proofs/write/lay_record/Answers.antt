@@ -2,7 +2,6 @@
 -- Assumes nothing.
 use Rattle.journal.specs.Bytes.{low, second}
 use Rattle.record.proofs.Laying.{givens_room_lem, moves_room, count_room, checks_room, record_laid}
-use borrow.Author.Rules.{rules}
 use Rattle.record.proofs.write.lay_record.Goals as goal
 
 pub lay_givens-moves-requires : goal.lay_givens-moves-requires

@@ -6,7 +6,6 @@ use lib.ListN.{length}
 use Rattle.journal.specs.declared.Move.{Move}
 use Rattle.record.specs.declared.Item.TheVariants.{Played}
 use Rattle.record.specs.Items.{encode}
-use borrow.Author.Rules.{rules}
 use Rattle.record.proofs.write.move_length.Goals as goal
 
 pub returns-in-Place : goal.returns-in-Place

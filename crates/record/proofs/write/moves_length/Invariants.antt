@@ -1,17 +1,12 @@
 -- `record::write::moves_length` meets its contract: what was counted so far, and the bytes of what is left.
 -- Assumes nothing.
 use Prim.Native.Nat.{◌≤◌, ◌+◌, ◌-◌, ◌*◌}
-use mathlib.Core.Path.{◌≡◌, ap, ◌∙◌}
-use native.Mathlib.Omega.{arith}
-use lib.ListN.{length, length-append}
+use mathlib.Core.Path.{◌≡◌}
+use lib.ListN.{length}
 use Rattle.journal.specs.Limits.{move_item_bytes}
-use Rattle.journal.specs.declared.Move.{Move}
-use Rattle.journal.specs.Slots.{move_of}
 use Rattle.record.specs.declared.Item.TheVariants.{Played}
-use Rattle.record.specs.Items.{encode}
 use Rattle.record.specs.Code.Laying.{moves_bytes}
-use Rattle.record.proofs.Laying.{items_left, items_turn, items_none, move_in, moves_left}
-use borrow.Author.Rules.{rules}
+use Rattle.record.proofs.Laying.{items_left, move_in}
 use Rattle.record.proofs.write.moves_length.Given as goal
 
 abbrev pub invariant-loop-n : goal.invariant-loop-n

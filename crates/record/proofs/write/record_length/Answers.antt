@@ -2,7 +2,6 @@
 -- Assumes nothing.
 use native.Mathlib.Omega.{arith}
 use Rattle.record.proofs.Laying.{length_record}
-use borrow.Author.Rules.{rules}
 use Rattle.record.proofs.write.record_length.Goals as goal
 
 pub returns : goal.returns

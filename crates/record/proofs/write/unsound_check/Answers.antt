@@ -6,7 +6,6 @@ use Rattle.puzzle.specs.Refusals.{refusal}
 use Rattle.puzzle.proofs.Accepted.{if_not}
 use Rattle.puzzle.proofs.Refusals.{refused_if_lem}
 use Rattle.record.specs.Write.{unsound_check}
-use borrow.Author.Rules.{rules}
 use Rattle.record.proofs.write.unsound_check.Goals as goal
 
 pub returns-then-is_sound_check : goal.returns-then-is_sound_check

@@ -1,12 +1,11 @@
 -- `record::write::unsound_checks` meets its contract: what is left to test from n on decides.
 -- Assumes nothing.
-use Prim.Native.Nat.{ℕ, ◌≤◌, ◌+◌, ◌-◌}
-use mathlib.Core.Path.{◌≡◌, sym, ap, ◌∙◌}
+use Prim.Native.Nat.{ℕ, ◌+◌, ◌-◌}
+use mathlib.Core.Path.{sym, ap, ◌∙◌}
 use native.Mathlib.Omega.{arith}
 use Rattle.puzzle.specs.Refusals.{first_refused}
 use Rattle.puzzle.proofs.Refusals.{walk_refused, walk_more, walk_all}
 use Rattle.record.specs.Write.{unsound_check}
-use borrow.Author.Rules.{rules}
 use Rattle.record.proofs.write.unsound_checks.Goals as goal
 
 pub loop-n-init : goal.loop-n-init

@@ -5,7 +5,6 @@ use Rattle.sudoku.proofs.Walks.{and_both}
 use Rattle.puzzle.specs.declared.Refusal.{Refusal}
 use Rattle.play.proofs.Accepted.{lent_refuses, slots_decide, lent_counts}
 use Rattle.record.proofs.Writing.{refused_before, refused_after}
-use borrow.Author.Rules.{rules}
 use Rattle.record.proofs.write.unwritable.Goals as goal
 
 pub returns-then-n-ne0 : goal.returns-then-n-ne0

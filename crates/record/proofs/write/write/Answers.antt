@@ -5,7 +5,6 @@ use native.Mathlib.Omega.{arith}
 use Rattle.puzzle.specs.declared.Refusal.{Refusal}
 use Rattle.record.specs.Write.{Wrote, wrote}
 use Rattle.record.proofs.Writing.{not_written, too_short, written}
-use borrow.Author.Rules.{rules}
 use Rattle.record.proofs.write.write.Goals as goal
 
 pub returns-then-r-ne0 : goal.returns-then-r-ne0

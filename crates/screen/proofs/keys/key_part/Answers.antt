@@ -3,7 +3,6 @@
 use borrow.Author.Tests.{eq-eqb, ne_eqb}
 use Rattle.sudoku.specs.Tests.{pick}
 use Rattle.screen.specs.Keys.{key_part}
-use borrow.Author.Rules.{rules}
 use Rattle.screen.proofs.keys.key_part.Goals as goal
 
 pub returns-then-i-eq2 : goal.returns-then-i-eq2

@@ -3,7 +3,6 @@
 use borrow.Author.Tests.{lt-ltb, le-ltb, eq-eqb, ne_eqb}
 use Rattle.sudoku.specs.Tests.{pick}
 use Rattle.screen.specs.Keys.{heading, key_sign}
-use borrow.Author.Rules.{rules}
 use Rattle.screen.proofs.keys.key_sign.Goals as goal
 
 pub returns-then-n-lt11 : goal.returns-then-n-lt11

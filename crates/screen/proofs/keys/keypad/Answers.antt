@@ -1,12 +1,10 @@
 -- `screen::keys::keypad` meets its contract: the characters passed so far are those of the line.
 -- Assumes nothing.
-use Prim.Native.Nat.{◌-◌}
 use mathlib.Core.Path.{refl}
 use native.Mathlib.Omega.{arith}
 use Rattle.sudoku.specs.Tests.{listed}
-use Rattle.screen.proofs.Filling.{Filling, goes_on, ends}
-use Rattle.screen.specs.Keys.{key_sign, keypad_of}
-use borrow.Author.Rules.{rules}
+use Rattle.screen.proofs.Filling.{goes_on, ends}
+use Rattle.screen.specs.Keys.{keypad_of}
 use Rattle.screen.proofs.keys.keypad.Goals as goal
 
 pub loop-n-init : goal.loop-n-init

@@ -1,12 +1,8 @@
 -- `screen::keys::keypad` meets its contract: the characters passed so far are those of the line.
 -- Assumes nothing.
 use Prim.Native.Nat.{◌-◌}
-use mathlib.Core.Path.{refl}
-use native.Mathlib.Omega.{arith}
-use Rattle.sudoku.specs.Tests.{listed}
-use Rattle.screen.proofs.Filling.{Filling, goes_on, ends}
-use Rattle.screen.specs.Keys.{key_sign, keypad_of}
-use borrow.Author.Rules.{rules}
+use Rattle.screen.proofs.Filling.{Filling}
+use Rattle.screen.specs.Keys.{key_sign}
 use Rattle.screen.proofs.keys.keypad.Given as goal
 
 abbrev pub invariant-loop-n : goal.invariant-loop-n

@@ -1,10 +1,8 @@
 -- `screen::picture::cell_colour` meets its contract.
 -- Assumes nothing.
 use mathlib.Core.Path.{sym, ◌∙◌}
-use borrow.Author.Tests.{not-true, not-false}
 use Rattle.sudoku.specs.Tests.{pick}
 use Rattle.screen.specs.Picture.{cell_colour}
-use borrow.Author.Rules.{rules}
 use Rattle.screen.proofs.picture.cell_colour.Goals as goal
 
 pub returns-then-not-holds_digit : goal.returns-then-not-holds_digit

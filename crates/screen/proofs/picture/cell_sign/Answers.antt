@@ -3,7 +3,6 @@
 use mathlib.Core.Path.{sym, ◌∙◌}
 use Rattle.sudoku.specs.Tests.{pick}
 use Rattle.screen.specs.Picture.{cell_sign}
-use borrow.Author.Rules.{rules}
 use Rattle.screen.proofs.picture.cell_sign.Goals as goal
 
 pub returns-then-holds_digit : goal.returns-then-holds_digit

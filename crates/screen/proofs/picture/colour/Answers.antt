@@ -1,7 +1,6 @@
 -- `screen::picture::colour` meets its contract.
 -- Assumes nothing.
 use Rattle.screen.specs.Picture.{colour_at, colour_of}
-use borrow.Author.Rules.{rules}
 use Rattle.screen.proofs.picture.colour.Goals as goal
 
 pub returns-in-Frame : goal.returns-in-Frame

@@ -1,12 +1,8 @@
 -- `screen::picture::colours` meets its contract: the colours passed so far are those of the characters.
 -- Assumes nothing.
 use Prim.Native.Nat.{◌-◌}
-use mathlib.Core.Path.{refl}
-use native.Mathlib.Omega.{arith}
-use Rattle.sudoku.specs.Tests.{listed}
-use Rattle.screen.proofs.Filling.{Filling, goes_on, ends}
-use Rattle.screen.specs.Picture.{size, colour_of, colours_of}
-use borrow.Author.Rules.{rules}
+use Rattle.screen.proofs.Filling.{Filling}
+use Rattle.screen.specs.Picture.{size, colour_of}
 use Rattle.screen.proofs.picture.colours.Given as goal
 
 abbrev pub invariant-loop-n : goal.invariant-loop-n

@@ -3,7 +3,6 @@
 use borrow.Author.Tests.{eq-eqb, ne_eqb}
 use Rattle.sudoku.specs.Tests.{pick}
 use Rattle.screen.specs.Picture.{column_label}
-use borrow.Author.Rules.{rules}
 use Rattle.screen.proofs.picture.column_label.Goals as goal
 
 pub returns-then-x-eq0 : goal.returns-then-x-eq0

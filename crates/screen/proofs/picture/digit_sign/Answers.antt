@@ -4,7 +4,6 @@ use mathlib.Core.Path.{sym, ◌∙◌}
 use borrow.Author.Tests.{eq-eqb, ne_eqb}
 use Rattle.sudoku.specs.Tests.{pick}
 use Rattle.screen.specs.Picture.{digit_sign}
-use borrow.Author.Rules.{rules}
 use Rattle.screen.proofs.picture.digit_sign.Goals as goal
 
 pub returns-then-spot-eq5 : goal.returns-then-spot-eq5

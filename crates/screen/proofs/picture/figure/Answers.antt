@@ -3,7 +3,6 @@
 use borrow.Author.Tests.{le-leb, lt-leb}
 use Rattle.sudoku.specs.Tests.{pick}
 use Rattle.screen.specs.Picture.{figure}
-use borrow.Author.Rules.{rules}
 use Rattle.screen.proofs.picture.figure.Goals as goal
 
 pub returns-then-n-le9 : goal.returns-then-n-le9

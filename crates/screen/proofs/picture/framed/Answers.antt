@@ -3,7 +3,6 @@
 use borrow.Author.Tests.{eq-eqb, ne_eqb}
 use Rattle.sudoku.specs.Tests.{pick}
 use Rattle.screen.specs.Picture.{framed}
-use borrow.Author.Rules.{rules}
 use Rattle.screen.proofs.picture.framed.Goals as goal
 
 pub returns-then-y-eq0 : goal.returns-then-y-eq0

@@ -4,7 +4,6 @@ use mathlib.Core.Path.{sym, ◌∙◌}
 use borrow.Author.Tests.{eq-eqb, ne_eqb}
 use Rattle.sudoku.specs.Tests.{pick, either}
 use Rattle.screen.specs.Picture.{mark_sign}
-use borrow.Author.Rules.{rules}
 use Rattle.screen.proofs.picture.mark_sign.Goals as goal
 
 pub returns-then-contains : goal.returns-then-contains

@@ -1,12 +1,10 @@
 -- `screen::picture::picture` meets its contract: the characters passed so far are those of the drawn board.
 -- Assumes nothing.
-use Prim.Native.Nat.{◌-◌}
 use mathlib.Core.Path.{refl}
 use native.Mathlib.Omega.{arith}
 use Rattle.sudoku.specs.Tests.{listed}
-use Rattle.screen.proofs.Filling.{Filling, goes_on, ends}
-use Rattle.screen.specs.Picture.{size, sign_of, picture_of}
-use borrow.Author.Rules.{rules}
+use Rattle.screen.proofs.Filling.{goes_on, ends}
+use Rattle.screen.specs.Picture.{picture_of}
 use Rattle.screen.proofs.picture.picture.Goals as goal
 
 pub loop-n-init : goal.loop-n-init

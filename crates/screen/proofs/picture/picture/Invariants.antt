@@ -1,12 +1,8 @@
 -- `screen::picture::picture` meets its contract: the characters passed so far are those of the drawn board.
 -- Assumes nothing.
 use Prim.Native.Nat.{◌-◌}
-use mathlib.Core.Path.{refl}
-use native.Mathlib.Omega.{arith}
-use Rattle.sudoku.specs.Tests.{listed}
-use Rattle.screen.proofs.Filling.{Filling, goes_on, ends}
-use Rattle.screen.specs.Picture.{size, sign_of, picture_of}
-use borrow.Author.Rules.{rules}
+use Rattle.screen.proofs.Filling.{Filling}
+use Rattle.screen.specs.Picture.{size, sign_of}
 use Rattle.screen.proofs.picture.picture.Given as goal
 
 abbrev pub invariant-loop-n : goal.invariant-loop-n

@@ -3,7 +3,6 @@
 use borrow.Author.Tests.{eq-eqb, ne_eqb, lt-ltb, le-ltb}
 use Rattle.sudoku.specs.Tests.{pick, either}
 use Rattle.screen.specs.Picture.{placed}
-use borrow.Author.Rules.{rules}
 use Rattle.screen.proofs.picture.placed.Goals as goal
 
 pub returns-then-x-eq60 : goal.returns-then-x-eq60

@@ -3,7 +3,6 @@
 use borrow.Author.Tests.{eq-eqb, ne_eqb}
 use Rattle.sudoku.specs.Tests.{pick, both, either}
 use Rattle.screen.specs.Picture.{row_label}
-use borrow.Author.Rules.{rules}
 use Rattle.screen.proofs.picture.row_label.Goals as goal
 
 pub returns-then-y-ne2 : goal.returns-then-y-ne2

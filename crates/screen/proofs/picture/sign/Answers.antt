@@ -1,7 +1,6 @@
 -- `screen::picture::sign` meets its contract.
 -- Assumes nothing.
 use Rattle.screen.specs.Picture.{sign_at, sign_of}
-use borrow.Author.Rules.{rules}
 use Rattle.screen.proofs.picture.sign.Goals as goal
 
 pub returns-in-Frame : goal.returns-in-Frame

@@ -3,7 +3,6 @@
 use borrow.Author.Tests.{le-leb, lt-leb}
 use Rattle.sudoku.specs.Tests.{pick, both}
 use Rattle.screen.specs.Picture.{spot_of}
-use borrow.Author.Rules.{rules}
 use Rattle.screen.proofs.picture.spot_of.Goals as goal
 
 pub returns-then-j-lt2 : goal.returns-then-j-lt2

@@ -1,6 +1,5 @@
 -- `terminal::input::next_byte` meets its contract.
 -- Assumes nothing.
-use borrow.Author.Rules.{rules}
 use Rattle.terminal.proofs.Reading.{from_buffer, from_input}
 use Rattle.terminal.proofs.input.next_byte.Goals as goal
 

@@ -5,7 +5,6 @@ use native.Mathlib.Omega.{arith}
 use borrow.Author.Tests.{lt-ltb, le-ltb}
 use Rattle.sudoku.proofs.Walks.{pick_true, pick_false}
 use Rattle.terminal.specs.Input.{with_byte}
-use borrow.Author.Rules.{rules}
 use Rattle.terminal.proofs.input.put.Goals as goal
 
 pub returns-then-n-lt-LINE_BYTES : goal.returns-then-n-lt-LINE_BYTES

@@ -4,8 +4,7 @@ use mathlib.Core.Path.{refl}
 use mathlib.Core.List.{[], append-nil}
 use native.Mathlib.Omega.{arith}
 use Rattle.terminal.specs.Input.{unused, with_bytes, is_line}
-use Rattle.terminal.proofs.Reading.{Going, stops, input_ends, line_ends, goes_on}
-use borrow.Author.Rules.{rules}
+use Rattle.terminal.proofs.Reading.{stops, input_ends, line_ends, goes_on}
 use Rattle.terminal.proofs.input.read_line.Goals as goal
 
 pub loop-turns-init : goal.loop-turns-init

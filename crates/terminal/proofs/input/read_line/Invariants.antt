@@ -1,11 +1,6 @@
 -- `terminal::input::read_line` meets its contract, and ends: the turns are counted down.
 -- Assumes nothing.
-use mathlib.Core.Path.{refl}
-use mathlib.Core.List.{[], append-nil}
-use native.Mathlib.Omega.{arith}
-use Rattle.terminal.specs.Input.{unused, with_bytes, is_line}
-use Rattle.terminal.proofs.Reading.{Going, stops, input_ends, line_ends, goes_on}
-use borrow.Author.Rules.{rules}
+use Rattle.terminal.proofs.Reading.{Going}
 use Rattle.terminal.proofs.input.read_line.Given as goal
 
 abbrev pub invariant-loop-turns : goal.invariant-loop-turns

@@ -4,7 +4,6 @@ use mathlib.Core.Path.{sym}
 use borrow.Author.Tests.{lt-ltb, le-ltb}
 use Rattle.sudoku.proofs.Walks.{pick_true, pick_false}
 use Rattle.terminal.specs.Input.{taken_at}
-use borrow.Author.Rules.{rules}
 use Rattle.terminal.proofs.input.taken.Goals as goal
 
 pub returns-then-at-end : goal.returns-then-at-end

@@ -1,7 +1,6 @@
 -- `terminal::start::arguments` is safe and ends.
 -- Assumes nothing.
 use Prim.Native.Nat.{◌-◌}
-use borrow.Author.Rules.{rules}
 use Rattle.terminal.proofs.start.arguments.Given as goal
 
 abbrev pub invariant-loop-i : goal.invariant-loop-i

@@ -1,6 +1,5 @@
 -- `terminal::start::session` is safe and ends: the turns are counted down.
 -- Assumes nothing.
-use borrow.Author.Rules.{rules}
 use Rattle.terminal.proofs.start.session.Given as goal
 
 abbrev pub invariant-loop-turns : goal.invariant-loop-turns

@@ -1,7 +1,6 @@
 -- `texts::commands::goes_on` meets its contract.
 -- Assumes nothing.
 use Rattle.texts.specs.Commands.{goes_on}
-use borrow.Author.Rules.{rules}
 use Rattle.texts.proofs.commands.goes_on.Goals as goal
 
 pub returns-then-blanks : goal.returns-then-blanks

@@ -3,7 +3,6 @@
 use borrow.Author.Tests.{lt-ltb, le-ltb}
 use Rattle.sudoku.specs.Tests.{pick}
 use Rattle.texts.specs.Commands.{line_verb}
-use borrow.Author.Rules.{rules}
 use Rattle.texts.proofs.commands.line_verb.Goals as goal
 
 pub returns-then-name : goal.returns-then-name

@@ -1,15 +1,13 @@
 -- `texts::commands::number` meets its contract: what is left of the text leads to the same number.
 -- Assumes nothing.
-use Prim.Native.Nat.{ℕ, ◌≤◌, ◌+◌, ◌-◌}
-use mathlib.Core.Path.{◌≡◌, sym, ap, ◌∙◌}
-use mathlib.Core.List.{List}
+use Prim.Native.Nat.{ℕ, ◌+◌, ◌-◌}
+use mathlib.Core.Path.{sym, ap, ◌∙◌}
 use native.Mathlib.Omega.{arith}
 use borrow.Author.Tests.{eq-eqb, ne_eqb}
-use lib.ListN.{length, get_or}
+use lib.ListN.{length}
 use Rattle.sudoku.specs.Tests.{pick, run}
 use Rattle.sudoku.proofs.Walks.{pick_false, run_more, run_all}
-use Rattle.texts.specs.Commands.{with_figure, number_of}
-use borrow.Author.Rules.{rules}
+use Rattle.texts.specs.Commands.{number_of}
 use Rattle.texts.proofs.commands.number.Invariants.{step}
 use Rattle.texts.proofs.commands.number.Goals as goal
 

@@ -1,15 +1,11 @@
 -- `texts::commands::number` meets its contract: what is left of the text leads to the same number.
 -- Assumes nothing.
-use Prim.Native.Nat.{ℕ, ◌≤◌, ◌+◌, ◌-◌}
-use mathlib.Core.Path.{◌≡◌, sym, ap, ◌∙◌}
+use Prim.Native.Nat.{ℕ, ◌≤◌, ◌-◌}
+use mathlib.Core.Path.{◌≡◌}
 use mathlib.Core.List.{List}
-use native.Mathlib.Omega.{arith}
-use borrow.Author.Tests.{eq-eqb, ne_eqb}
 use lib.ListN.{length, get_or}
-use Rattle.sudoku.specs.Tests.{pick, run}
-use Rattle.sudoku.proofs.Walks.{pick_false, run_more, run_all}
-use Rattle.texts.specs.Commands.{with_figure, number_of}
-use borrow.Author.Rules.{rules}
+use Rattle.sudoku.specs.Tests.{run}
+use Rattle.texts.specs.Commands.{with_figure}
 use Rattle.texts.proofs.commands.number.Given as goal
 
 abbrev pub step : List ℕ → ℕ → ℕ → ℕ

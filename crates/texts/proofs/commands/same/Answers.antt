@@ -1,17 +1,13 @@
 -- `texts::commands::same` meets its contract: what is left to compare says the same.
 -- Assumes nothing.
-use Prim.Native.Nat.{ℕ, ◌≤◌, ◌-◌}
-use mathlib.Core.Path.{◌≡◌, sym, ap, ◌∙◌}
-use mathlib.Core.Bool.{Bool}
-use mathlib.Core.List.{List}
+use Prim.Native.Nat.{ℕ, ◌-◌}
+use mathlib.Core.Path.{sym, ap, ◌∙◌}
 use native.Mathlib.Omega.{arith}
 use borrow.Author.Tests.{eq-eqb, ne_eqb}
-use lib.Dec.{eqb}
-use lib.ListN.{length, get_or}
+use lib.ListN.{length}
 use Rattle.sudoku.specs.Tests.{both, every}
 use Rattle.sudoku.proofs.Walks.{both_first, every_more, every_fails, every_all}
 use Rattle.texts.specs.Commands.{is_same}
-use borrow.Author.Rules.{rules}
 use Rattle.texts.proofs.commands.same.Invariants.{alike}
 use Rattle.texts.proofs.commands.same.Goals as goal
 

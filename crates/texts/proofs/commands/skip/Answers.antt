@@ -1,12 +1,8 @@
 -- `texts::commands::skip` meets its contract: from each place passed the walk ends where it ends from the first.
 -- Assumes nothing.
-use Prim.Native.Nat.{◌-◌}
-use mathlib.Core.Path.{◌≡◌, refl, sym, ◌∙◌}
-use borrow.Author.Tests.{not-true, not-false}
-use lib.ListN.{length}
+use mathlib.Core.Path.{refl, sym, ◌∙◌}
 use Rattle.texts.proofs.FirstNot.{goes_on_lem, stops, ends}
-use Rattle.texts.specs.Commands.{first_not, goes_on, skipped}
-use borrow.Author.Rules.{rules}
+use Rattle.texts.specs.Commands.{skipped}
 use Rattle.texts.proofs.commands.skip.Goals as goal
 
 pub loop-i-init : goal.loop-i-init

@@ -1,12 +1,9 @@
 -- `texts::commands::skip` meets its contract: from each place passed the walk ends where it ends from the first.
 -- Assumes nothing.
 use Prim.Native.Nat.{◌-◌}
-use mathlib.Core.Path.{◌≡◌, refl, sym, ◌∙◌}
-use borrow.Author.Tests.{not-true, not-false}
+use mathlib.Core.Path.{◌≡◌}
 use lib.ListN.{length}
-use Rattle.texts.proofs.FirstNot.{goes_on_lem, stops, ends}
-use Rattle.texts.specs.Commands.{first_not, goes_on, skipped}
-use borrow.Author.Rules.{rules}
+use Rattle.texts.specs.Commands.{first_not, goes_on}
 use Rattle.texts.proofs.commands.skip.Given as goal
 
 abbrev pub invariant-loop-i : goal.invariant-loop-i

@@ -1,7 +1,6 @@
 -- `texts::commands::taken_apart` meets its contract.
 -- Assumes nothing.
 use Rattle.texts.specs.Commands.{command_after, command_of}
-use borrow.Author.Rules.{rules}
 use Rattle.texts.proofs.commands.taken_apart.Goals as goal
 
 pub returns : goal.returns

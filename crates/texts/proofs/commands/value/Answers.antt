@@ -1,7 +1,6 @@
 -- `texts::commands::value` meets its contract.
 -- Assumes nothing.
 use Rattle.texts.specs.Commands.{value_of}
-use borrow.Author.Rules.{rules}
 use Rattle.texts.proofs.commands.value.Goals as goal
 
 pub returns : goal.returns

@@ -4,7 +4,6 @@ use mathlib.Core.Path.{sym}
 use borrow.Author.Tests.{eq-eqb, ne_eqb}
 use Rattle.sudoku.specs.Tests.{pick}
 use Rattle.texts.specs.Commands.{verb_of}
-use borrow.Author.Rules.{rules}
 use Rattle.texts.proofs.commands.verb_of.Goals as goal
 
 pub returns-then-name-eq1 : goal.returns-then-name-eq1

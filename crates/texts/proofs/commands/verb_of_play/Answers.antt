@@ -5,7 +5,6 @@ use mathlib.Core.List.{[]}
 use Rattle.sudoku.specs.Tests.{first}
 use Rattle.sudoku.proofs.Walks.{refused, no_if}
 use Rattle.texts.specs.Commands.{verb_of_play}
-use borrow.Author.Rules.{rules}
 use Rattle.texts.proofs.commands.verb_of_play.Goals as goal
 
 none : first [] ≡ 0

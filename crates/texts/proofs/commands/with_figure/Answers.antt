@@ -3,7 +3,6 @@
 use borrow.Author.Tests.{eq-eqb, ne_eqb, le-leb, lt-leb, lt-ltb, le-ltb}
 use Rattle.sudoku.specs.Tests.{pick, both, either}
 use Rattle.texts.specs.Commands.{with_figure}
-use borrow.Author.Rules.{rules}
 use Rattle.texts.proofs.commands.with_figure.Goals as goal
 
 pub returns-then-n-eq-NO_NUMBER : goal.returns-then-n-eq-NO_NUMBER

@@ -1,7 +1,6 @@
 -- `texts::commands::word` meets its contract.
 -- Assumes nothing.
 use Rattle.texts.specs.Commands.{word_at}
-use borrow.Author.Rules.{rules}
 use Rattle.texts.proofs.commands.word.Goals as goal
 
 pub returns : goal.returns

@@ -1,15 +1,12 @@
 -- `texts::grids::cells` meets its contract: what is left of the text leads to the same cells.
 -- Assumes nothing.
 use Prim.Native.Nat.{ℕ, ◌≤◌, ◌+◌, ◌-◌}
-use mathlib.Core.Path.{◌≡◌, sym, ap, ◌∙◌}
+use mathlib.Core.Path.{◌≡◌}
 use mathlib.Core.List.{List}
-use native.Mathlib.Omega.{arith}
 use lib.ListN.{length, get_or}
 use Rattle.sudoku.specs.Tests.{run}
-use Rattle.sudoku.proofs.Walks.{run_more, run_all}
 use Rattle.texts.specs.declared.Cells.{Cells}
-use Rattle.texts.specs.Grids.{with_character, no_cells, cells_of}
-use borrow.Author.Rules.{rules}
+use Rattle.texts.specs.Grids.{with_character}
 use Rattle.texts.proofs.grids.cells.Given as goal
 
 abbrev pub step : List ℕ → Cells → ℕ → Cells

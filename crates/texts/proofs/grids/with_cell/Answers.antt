@@ -3,7 +3,6 @@
 use borrow.Author.Tests.{lt-ltb, le-ltb}
 use Rattle.sudoku.specs.Tests.{pick}
 use Rattle.texts.specs.Grids.{with_cell}
-use borrow.Author.Rules.{rules}
 use Rattle.texts.proofs.grids.with_cell.Goals as goal
 
 pub returns-then-count-lt-CELLS : goal.returns-then-count-lt-CELLS

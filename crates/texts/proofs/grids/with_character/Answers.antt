@@ -4,7 +4,6 @@ use mathlib.Core.Path.{sym, ◌∙◌}
 use borrow.Author.Tests.{eq-eqb, ne_eqb, le-leb, lt-leb}
 use Rattle.sudoku.specs.Tests.{pick}
 use Rattle.texts.specs.Grids.{with_character}
-use borrow.Author.Rules.{rules}
 use Rattle.texts.proofs.grids.with_character.Goals as goal
 
 pub returns-then-so_far-ne0 : goal.returns-then-so_far-ne0

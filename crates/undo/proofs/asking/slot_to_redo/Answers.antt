@@ -5,7 +5,6 @@ use borrow.Author.Tests.{le-leb}
 use Rattle.sudoku.proofs.Walks.{pick_true}
 use Rattle.undo.specs.Code.Halves.{slot_to_redo}
 use Rattle.undo.proofs.Parts.{next_standing}
-use borrow.Author.Rules.{rules}
 use Rattle.undo.proofs.asking.slot_to_redo.Goals as goal
 
 pub returns-then-made-standing : goal.returns-then-made-standing

@@ -9,7 +9,6 @@ use Rattle.board.specs.Board.{lent_tests}
 use Rattle.board.proofs.Numbers.{last_if}
 use Rattle.play.specs.Play.{undo_before}
 use Rattle.play.proofs.Joined.{two_refuse, two_pass}
-use borrow.Author.Rules.{rules}
 use Rattle.undo.proofs.asking.undo_number.Goals as goal
 
 pub returns-then-lent-ne0 : goal.returns-then-lent-ne0

@@ -2,7 +2,6 @@
 -- Assumes nothing.
 use mathlib.Core.Path.{refl}
 use Rattle.undo.specs.Code.Halves.{digit_found, digit_again}
-use borrow.Author.Rules.{rules}
 use Rattle.undo.proofs.digits.put_again.Goals as goal
 
 pub returns-in_default : goal.returns-in_default

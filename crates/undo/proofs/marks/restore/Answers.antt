@@ -2,7 +2,6 @@
 -- Assumes nothing.
 use mathlib.Core.Path.{sym}
 use Rattle.undo.proofs.Parts.{write_none, lack_none}
-use borrow.Author.Rules.{rules}
 use Rattle.undo.proofs.marks.restore.Goals as goal
 
 pub returns-then-mask-eq0 : goal.returns-then-mask-eq0

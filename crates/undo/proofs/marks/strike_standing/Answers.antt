@@ -1,6 +1,5 @@
 -- `undo::marks::strike_standing` meets its contract.
 -- Assumes nothing.
-use borrow.Author.Rules.{rules}
 use Rattle.undo.proofs.marks.strike_standing.Goals as goal
 
 pub returns : goal.returns

@@ -3,7 +3,6 @@
 use mathlib.Core.Path.{refl}
 use Rattle.journal.specs.State.{with_notes}
 use Rattle.undo.specs.Code.Halves.{marks_found, marks_again}
-use borrow.Author.Rules.{rules}
 use Rattle.undo.proofs.marks.take_again.Goals as goal
 
 pub returns-in-Place : goal.returns-in-Place

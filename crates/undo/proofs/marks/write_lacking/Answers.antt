@@ -1,6 +1,5 @@
 -- `undo::marks::write_lacking` meets its contract.
 -- Assumes nothing.
-use borrow.Author.Rules.{rules}
 use Rattle.undo.proofs.marks.write_lacking.Goals as goal
 
 pub returns : goal.returns
