@@ -1,6 +1,6 @@
 /* pawdoku: the board inside a championship sudoku console, for C and for everything that links like C.
  *
- * Link with libpawdoku.a (made by `rt staticlib pawdoku`, in target/staticlib). The library keeps nothing
+ * Link with libpawdoku.a (made by `tools/archive`, in target/staticlib). The library keeps nothing
  * between calls, allocates nothing and calls nothing of the host's but memcpy, memmove and memset. All it works
  * on is lent: a board goes in by value and comes back in the answer, the journal and the check memory are the
  * caller's. Two boards never share anything, so calls on different boards may run in different threads.
