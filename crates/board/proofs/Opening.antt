@@ -76,13 +76,13 @@ module _ (givens solution : List ℕ) (r : Refusal) (e : r ≡ well_posed (given
       ap (λ gs. answer accepted (fresh gs solution)) (sym (triples_in givens))
       ∙ sym (posed_fresh (triples givens) solution (eq-eqb _ 0 (ap (λ x. x.number) outcome ∙ h)))
 
--- ---- openOf
+-- ---- open_of
 
 module _ (givens solution journal checks : List ℕ) where
   abbrev lengths : Bool
   lengths = both (lent_lengths solution journal checks) (eqb (length givens % 3) 0)
 
-  -- what is shown of an equal record holds of openOf
+  -- what is shown of an equal record holds of open_of
   gives : (o : Opened) (a : Answer) (j c : List ℕ) → open_of givens solution journal checks ≡ o → Gives o a j c
       → Gives (open_of givens solution journal checks) a j c
   gives o a j c e g = subst (λ o. Gives o a j c) (sym e) g

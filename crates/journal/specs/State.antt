@@ -24,7 +24,7 @@ pub record State : Type 0 where
 unfoldable pub opening : List Given → State
 opening gs = record { given = given_cells gs; digits = digits_of gs; notes = replicate 81 0; solved = 0 }
 
--- of a cell: its digit (0 for none), its kept note. Whether it is a given its flag alone says: isGiven of crate puzzle
+-- of a cell: its digit (0 for none), its kept note. Whether it is a given its flag alone says: is_given of crate puzzle
 unfoldable pub digit_at : State → ℕ → ℕ
 digit_at s cell = at s.digits cell
 

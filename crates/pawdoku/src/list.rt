@@ -1,6 +1,6 @@
 // An encoded list of calls, run: each call in its turn, on the board and memory that the last one left.
 // A list is a chain of the calls that a host makes, each handed what the last returned: undo, redo and check by the
-// exported functions, a move by the function that the four exported ones hand it to (docs/DECISIONS.md, 31).
+// functions of crate pawdoku, a move by the function that its four hand it to (docs/DECISIONS.md, 31).
 ghost use Rattle.std.specs.Prelude.{◌≡◌, false as no, ◌*◌, ◌/◌, ◌<◌, length};
 ghost use Rattle.puzzle.specs.Refusals.{accepted as accepted_of};
 ghost use Rattle.journal.specs.Bytes.{over};

@@ -1,7 +1,6 @@
 -- `report::story::checks_stored` is safe and ends.
 -- Assumes nothing.
 use Prim.Native.Nat.{◌≤◌, ◌-◌}
-use borrow.Author.Rules.{rules}
 use Rattle.report.proofs.story.checks_stored.Given as goal
 
 abbrev pub invariant-loop-i : goal.invariant-loop-i

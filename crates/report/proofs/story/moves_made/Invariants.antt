@@ -1,7 +1,6 @@
 -- `report::story::moves_made` is safe and ends.
 -- Assumes nothing.
 use Prim.Native.Nat.{◌≤◌, ◌-◌}
-use borrow.Author.Rules.{rules}
 use Rattle.report.proofs.story.moves_made.Given as goal
 
 abbrev pub invariant-loop-i : goal.invariant-loop-i
