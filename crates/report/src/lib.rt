@@ -2,7 +2,6 @@
 // is the library's, every picture and every refusal's words are those of the console.
 #![tactic(auto)]
 
-
 mod start;
 mod story;
 

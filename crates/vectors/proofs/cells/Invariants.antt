@@ -1,8 +1,6 @@
 -- `vectors::cells` is safe and ends.
 -- Assumes nothing.
 use Prim.Native.Nat.{◌≤◌, ◌-◌}
-use native.Mathlib.Omega.{arith}
-use borrow.Author.Rules.{rules}
 use Rattle.vectors.proofs.cells.Given as goal
 
 abbrev pub invariant-loop-row : goal.invariant-loop-row

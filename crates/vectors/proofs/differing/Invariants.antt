@@ -1,9 +1,7 @@
 -- `vectors::differing` is safe and ends.
 -- Assumes nothing.
 use Prim.Native.Nat.{◌≤◌, ◌-◌}
-use native.Mathlib.Omega.{arith}
 use lib.ListN.{length}
-use borrow.Author.Rules.{rules}
 use Rattle.vectors.proofs.differing.Given as goal
 
 abbrev pub invariant-loop-i : goal.invariant-loop-i

@@ -1,8 +1,6 @@
 -- `vectors::keys` is safe and ends.
 -- Assumes nothing.
 use Prim.Native.Nat.{◌≤◌, ◌-◌}
-use native.Mathlib.Omega.{arith}
-use borrow.Author.Rules.{rules}
 use Rattle.vectors.proofs.keys.Given as goal
 
 abbrev pub invariant-loop-key : goal.invariant-loop-key

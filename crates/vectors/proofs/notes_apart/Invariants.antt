@@ -1,8 +1,6 @@
 -- `vectors::notes_apart` is safe and ends.
 -- Assumes nothing.
 use Prim.Native.Nat.{◌≤◌, ◌-◌}
-use native.Mathlib.Omega.{arith}
-use borrow.Author.Rules.{rules}
 use Rattle.vectors.proofs.notes_apart.Given as goal
 
 abbrev pub invariant-loop-i : goal.invariant-loop-i

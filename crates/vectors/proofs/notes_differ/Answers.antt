@@ -1,8 +1,5 @@
 -- `vectors::notes_differ` is safe and ends.
 -- Assumes nothing.
-use Prim.Native.Nat.{◌≤◌, ◌-◌}
-use native.Mathlib.Omega.{arith}
-use borrow.Author.Rules.{rules}
 use Rattle.vectors.proofs.notes_differ.Goals as goal
 
 pub returns : goal.returns

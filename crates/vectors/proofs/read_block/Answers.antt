@@ -2,7 +2,6 @@
 -- Assumes nothing.
 use mathlib.Core.Path.{sym}
 use lib.Seq.{length-take-le}
-use borrow.Author.Rules.{rules}
 use Rattle.vectors.proofs.read_block.Goals as goal
 
 pub slice_bounds-read_full-end-2 : goal.slice_bounds-read_full-end-2

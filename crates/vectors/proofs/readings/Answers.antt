@@ -1,7 +1,5 @@
 -- `vectors::readings` is safe and ends.
 -- Assumes nothing.
-use Prim.Native.Nat.{◌-◌}
-use borrow.Author.Rules.{rules}
 use Rattle.vectors.proofs.readings.Goals as goal
 
 pub loop-i-init : goal.loop-i-init

@@ -1,7 +1,6 @@
 -- `vectors::readings` is safe and ends.
 -- Assumes nothing.
 use Prim.Native.Nat.{◌-◌}
-use borrow.Author.Rules.{rules}
 use Rattle.vectors.proofs.readings.Given as goal
 
 abbrev pub invariant-loop-i : goal.invariant-loop-i

@@ -1,7 +1,5 @@
 -- `vectors::replay` is safe and ends.
 -- Assumes nothing.
-use Prim.Native.Nat.{◌-◌}
-use borrow.Author.Rules.{rules}
 use Rattle.vectors.proofs.replay.Goals as goal
 
 pub loop-turns-init : goal.loop-turns-init

@@ -1,7 +1,5 @@
 -- `vectors::replay` is safe and ends.
 -- Assumes nothing.
-use Prim.Native.Nat.{◌-◌}
-use borrow.Author.Rules.{rules}
 use Rattle.vectors.proofs.replay.Given as goal
 
 abbrev pub invariant-loop-turns : goal.invariant-loop-turns

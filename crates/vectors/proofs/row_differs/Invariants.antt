@@ -1,8 +1,6 @@
 -- `vectors::row_differs` is safe and ends.
 -- Assumes nothing.
 use Prim.Native.Nat.{◌≤◌, ◌-◌}
-use native.Mathlib.Omega.{arith}
-use borrow.Author.Rules.{rules}
 use Rattle.vectors.proofs.row_differs.Given as goal
 
 abbrev pub invariant-loop-column : goal.invariant-loop-column
