@@ -62,6 +62,14 @@ fn opened<R: Files>(rt: &R, how: &OpenOptions, path: &[u8]) -> io::Result<R::Fil
     how.open(rt, name_of(path)?)
 }
 
+// Why a file cannot be read: of a name that is no text there is none that could be.
+fn missing(error: Error) -> Error {
+    match error.kind() {
+        ErrorKind::InvalidData => Error::from(ErrorKind::NotFound),
+        _ => error,
+    }
+}
+
 // Reads behind the bytes that are there.
 fn read_some<F: Read>(file: &mut F, buffer: &mut [u8], at: usize) -> io::Result<usize> {
     if at < buffer.len() {
@@ -128,7 +136,7 @@ pub fn read<R: Files>(rt: &R, path: &[u8], buffer: &mut [u8; FILE_BYTES]) -> Got
     let mut file = match opened(rt, &how, path) {
         Ok(file) => file,
         Err(error) => {
-            failed(b"cannot read ", path, &error);
+            failed(b"cannot read ", path, &missing(error));
             return nothing;
         }
     };
