@@ -9,7 +9,7 @@ use native.Mathlib.Numerals.{add-one}
 use native.Mathlib.Omega.{arith}
 use borrow.Author.Tests.{eqb-false, eq-eqb, ne_eqb}
 use lib.Dec.{eqb}
-use lib.ListN.{length}
+use lib.ListN.{length, length-map}
 use Rattle.puzzle.specs.Givens.{is_given}
 use Rattle.sudoku.specs.Tests.{◌⇒◌, first, both, count, listed}
 use Rattle.sudoku.specs.Grid.{in_range, on_grid, cell_of}
@@ -100,15 +100,11 @@ asks_length bytes start n = length_listed (λ i. asked_from bytes (start + check
 abbrev pub stored_of : List ℕ → List Asked → List ℕ
 stored_of solution cs = stored_all (map (judged solution) cs)
 
-length-map : {A B : Type 0} (f : A → B) (l : List A) → length (map f l) ≡ length l
-length-map f [] = refl
-length-map f (x ∷ l) = ap suc (length-map f l)
-
 pub stored_size : (solution bytes : List ℕ) (start count k : ℕ) → length (stored_of solution (asks_left bytes start count k)) ≡ check_bytes * (count + 1 - k)
 stored_size solution bytes start count k =
     length_stored (map (judged solution) (asks_left bytes start count k))
     ∙ ap (λ (n : ℕ). check_bytes * n)
-    (length-map (judged solution) (asks_left bytes start count k)
+    (length-map (asks_left bytes start count k) (judged solution)
     ∙ length_listed (λ i. asked_from bytes (start + check_item_bytes * (i - 1))) (count + 1 - k) k)
 
 module _ (bytes : List ℕ) (start count k : ℕ) (b : Board) (cells : ℕ) (c : Asked) (h : k < count + 1) (here : c ≡ asked_from bytes (start + check_item_bytes * (k - 1))) where
