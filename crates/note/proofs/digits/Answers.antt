@@ -17,10 +17,10 @@ use Rattle.note.proofs.Note.{len_le}
 use Rattle.note.proofs.digits.Goals as goal
 use Rattle.note.proofs.digits.Goals.{then-contains, else-contains}
 
-drop-zeros : (k n : ℕ) → drop {A = ℕ} k (replicate n 0) ≡ replicate (n - k) 0
-drop-zeros zero n = rw sub-zero
-drop-zeros (suc k) zero = rw zero-sub
-drop-zeros (suc k) (suc n) = rw suc-sub-suc (drop-zeros k n)
+drop_zeros : (k n : ℕ) → drop {A = ℕ} k (replicate n 0) ≡ replicate (n - k) 0
+drop_zeros zero n = rw sub-zero
+drop_zeros (suc k) zero = rw zero-sub
+drop_zeros (suc k) (suc n) = rw suc-sub-suc (drop_zeros k n)
 
 -- the marks stored one after another over nine zeros
 stored : (note : ℕ) → digits_of note ≡ sets (replicate 9 0) 0 (marks note)
@@ -28,15 +28,15 @@ unfolding digits_of len_of
 stored note =
     sym
     (sets-eq (marks note) (replicate 9 0) 0 (rw zero-add (len_le note))
-    ∙ rw (zero-add (length (marks note)), drop-zeros (length (marks note)) 9))
+    ∙ rw (zero-add (length (marks note)), drop_zeros (length (marks note)) 9))
 
 -- a turn stores its digit where the mark stands, and else nothing
 module _ (note : ℕ) (l : List ℕ) (n d : ℕ) (u : d < 10) where
-  turn-kept : contains note d ≡ true → sets l n (among (contains note) (10 - d) d) ≡ sets (set l n d) (n + 1) (among (contains note) (10 - (d + 1)) (d + 1))
-  turn-kept h = rw (among_more (contains note) 10 d u h, add-one n)
+  turn_kept : contains note d ≡ true → sets l n (among (contains note) (10 - d) d) ≡ sets (set l n d) (n + 1) (among (contains note) (10 - (d + 1)) (d + 1))
+  turn_kept h = rw (among_more (contains note) 10 d u h, add-one n)
 
-  turn-skipped : contains note d ≡ false → sets l n (among (contains note) (10 - d) d) ≡ sets l n (among (contains note) (10 - (d + 1)) (d + 1))
-  turn-skipped h = rw (among_skips (contains note) 10 d u h)
+  turn_skipped : contains note d ≡ false → sets l n (among (contains note) (10 - d) d) ≡ sets l n (among (contains note) (10 - (d + 1)) (d + 1))
+  turn_skipped h = rw (among_skips (contains note) 10 d u h)
 
 pub loop-mark-init : goal.loop-mark-init
 unfolding marks
@@ -48,8 +48,8 @@ loop-mark-preserved c =
     let u = c.loop-mark-test.true in
     let e = sym c.contains.ensures in
     elim c.if-contains.branch [
-      | then-contains w ↦ (omega arith, omega arith, omega arith, rw (w.marks-is, w.n-is) (i.3 ∙ turn-kept _ _ _ _ u (e ∙ w.if-contains.true)))
-      | else-contains w ↦ (omega arith, omega arith, omega arith, rw (w.marks-is, w.n-is) (i.3 ∙ turn-skipped _ _ _ _ u (e ∙ w.if-contains.false)))
+      | then-contains w ↦ (omega arith, omega arith, omega arith, rw (w.marks-is, w.n-is) (i.3 ∙ turn_kept _ _ _ _ u (e ∙ w.if-contains.true)))
+      | else-contains w ↦ (omega arith, omega arith, omega arith, rw (w.marks-is, w.n-is) (i.3 ∙ turn_skipped _ _ _ _ u (e ∙ w.if-contains.false)))
     ]
 
 pub returns : goal.returns

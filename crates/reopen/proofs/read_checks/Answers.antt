@@ -40,10 +40,10 @@ returns-then-r-ne0 c =
     let a = c.args in
     let to_play_lem = c.to_play-cells in
     let turn = c.loop-k in
-    let asked-at = c.asked_at in
-    let read-check = c.read_check-r in
+    let asked_at = c.asked_at in
+    let read_check = c.read_check-r in
     let all = ap (checks_refusal a.board (to_play a.board) 1) (asks_all a.bytes.now a.start a.count) in
-    (sym (all ∙ ap (λ (n : ℕ). checks_refusal a.board n 1 (asks_left a.bytes.now a.start a.count 1)) (sym to_play_lem.ensures) ∙ turn.invariant.3 ∙ check_stops a.bytes.now a.start a.count turn.k a.board to_play_lem.result asked-at.result (omega arith) (asked-at.ensures ∙ ap (asked_from a.bytes.now) turn.invariant.2) read-check.result read-check.ensures.0 c.if-r-ne0.true), λ z. absurd (c.if-r-ne0.true z))
+    (sym (all ∙ ap (λ (n : ℕ). checks_refusal a.board n 1 (asks_left a.bytes.now a.start a.count 1)) (sym to_play_lem.ensures) ∙ turn.invariant.3 ∙ check_stops a.bytes.now a.start a.count turn.k a.board to_play_lem.result asked_at.result (omega arith) (asked_at.ensures ∙ ap (asked_from a.bytes.now) turn.invariant.2) read_check.result read_check.ensures.0 c.if-r-ne0.true), λ z. absurd (c.if-r-ne0.true z))
 
 pub overflow_add-at : goal.overflow_add-at
 overflow_add-at c =
@@ -55,13 +55,13 @@ loop-k-preserved c =
     let a = c.args in
     let to_play_lem = c.to_play-cells in
     let turn = c.loop-k in
-    let asked-at = c.asked_at in
-    let read-check = c.read_check-r in (
+    let asked_at = c.asked_at in
+    let read_check = c.read_check-r in (
       omega arith,
       omega arith,
       omega (arith, turn.invariant.2),
-      turn.invariant.3 ∙ check_goes_on a.bytes.now a.start a.count turn.k a.board to_play_lem.result asked-at.result (omega arith) (asked-at.ensures ∙ ap (asked_from a.bytes.now) turn.invariant.2) read-check.result read-check.ensures.0 c.if-r-ne0.false,
-      laying_more _ _ _ _ _ _ turn.invariant.4 (stored_bytes (judged a.board.solution asked-at.result)) (stored_of a.board.solution (asks_left a.bytes.now a.start a.count (turn.k + 1))) _ _ (stored_turn a.bytes.now a.start a.count turn.k a.board to_play_lem.result asked-at.result (omega arith) (asked-at.ensures ∙ ap (asked_from a.bytes.now) turn.invariant.2)) (omega (arith, stored_length (judged a.board.solution asked-at.result))) (read-check.ensures.1 c.if-r-ne0.false),
+      turn.invariant.3 ∙ check_goes_on a.bytes.now a.start a.count turn.k a.board to_play_lem.result asked_at.result (omega arith) (asked_at.ensures ∙ ap (asked_from a.bytes.now) turn.invariant.2) read_check.result read_check.ensures.0 c.if-r-ne0.false,
+      laying_more _ _ _ _ _ _ turn.invariant.4 (stored_bytes (judged a.board.solution asked_at.result)) (stored_of a.board.solution (asks_left a.bytes.now a.start a.count (turn.k + 1))) _ _ (stored_turn a.bytes.now a.start a.count turn.k a.board to_play_lem.result asked_at.result (omega arith) (asked_at.ensures ∙ ap (asked_from a.bytes.now) turn.invariant.2)) (omega (arith, stored_length (judged a.board.solution asked_at.result))) (read_check.ensures.1 c.if-r-ne0.false),
     )
 
 pub shape_of-checks : goal.shape_of-checks

@@ -16,8 +16,8 @@ pub reopened-answer-requires : goal.reopened-answer-requires
 unfolding lent_lengths
 reopened-answer-requires c =
     let a = c.args in
-    let lent-lengths = c.lent_lengths in
-    (solution_length a.bytes.now a.solution.now a.journal.now a.checks.now (sym lent-lengths.ensures ∙ c.if-not-lent_lengths.false), journal_zero a.bytes.now a.solution.now a.journal.now a.checks.now (sym lent-lengths.ensures ∙ c.if-not-lent_lengths.false) _ _ refl c.clear.ensures, checks_zero a.bytes.now a.solution.now a.journal.now a.checks.now (sym lent-lengths.ensures ∙ c.if-not-lent_lengths.false) _ _ refl c.clear-2.ensures)
+    let lengths = c.lent_lengths in
+    (solution_length a.bytes.now a.solution.now a.journal.now a.checks.now (sym lengths.ensures ∙ c.if-not-lent_lengths.false), journal_zero a.bytes.now a.solution.now a.journal.now a.checks.now (sym lengths.ensures ∙ c.if-not-lent_lengths.false) _ _ refl c.clear.ensures, checks_zero a.bytes.now a.solution.now a.journal.now a.checks.now (sym lengths.ensures ∙ c.if-not-lent_lengths.false) _ _ refl c.clear-2.ensures)
 
 pub shape_of-journal-then-refused-ne0 : goal.shape_of-journal-then-refused-ne0
 shape_of-journal-then-refused-ne0 c =
@@ -31,12 +31,12 @@ pub returns-then-refused-ne0 : goal.returns-then-refused-ne0
 unfolding lent_lengths
 returns-then-refused-ne0 c =
     let a = c.args in
-    let lent-lengths = c.lent_lengths in
+    let lengths = c.lent_lengths in
     let reopened = c.reopened-answer in
-    let zero-board = c.zero_board in
-    lent_refused a.bytes.now a.solution.now a.journal.now a.checks.now (sym lent-lengths.ensures ∙ c.if-not-lent_lengths.false) reopened.result _ _ reopened.ensures c.if-refused-ne0.true zero-board.result _ _ zero-board.ensures
-    (journal_zero a.bytes.now a.solution.now a.journal.now a.checks.now (sym lent-lengths.ensures ∙ c.if-not-lent_lengths.false) _ _ (reopened.auto.journal ∙ c.clear.auto.memory) c.clear-then-refused-ne0.ensures)
-    (checks_zero a.bytes.now a.solution.now a.journal.now a.checks.now (sym lent-lengths.ensures ∙ c.if-not-lent_lengths.false) _ _ (reopened.auto.checks ∙ c.clear-2.auto.memory) c.clear-then-refused-ne0-2.ensures)
+    let zero_board = c.zero_board in
+    lent_refused a.bytes.now a.solution.now a.journal.now a.checks.now (sym lengths.ensures ∙ c.if-not-lent_lengths.false) reopened.result _ _ reopened.ensures c.if-refused-ne0.true zero_board.result _ _ zero_board.ensures
+    (journal_zero a.bytes.now a.solution.now a.journal.now a.checks.now (sym lengths.ensures ∙ c.if-not-lent_lengths.false) _ _ (reopened.auto.journal ∙ c.clear.auto.memory) c.clear-then-refused-ne0.ensures)
+    (checks_zero a.bytes.now a.solution.now a.journal.now a.checks.now (sym lengths.ensures ∙ c.if-not-lent_lengths.false) _ _ (reopened.auto.checks ∙ c.clear-2.auto.memory) c.clear-then-refused-ne0-2.ensures)
 
 pub returns : goal.returns
 unfolding lent_lengths

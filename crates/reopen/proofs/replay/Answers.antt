@@ -12,7 +12,7 @@ use Rattle.play.specs.Play.{Played, played}
 use Rattle.record.specs.Reopen.{replay}
 use Rattle.reopen.specs.Code.Reopening.{moves_at}
 use Rattle.reopen.proofs.Replaying.{next_stops, next_made, next_wrote, turn_stops, turn_goes_on, turn_standing, replay_ends}
-use Rattle.reopen.proofs.replay.Invariants.{now-at}
+use Rattle.reopen.proofs.replay.Invariants.{now_at}
 use Rattle.reopen.proofs.replay.Goals as goal
 
 pub loop-k-init : goal.loop-k-init
@@ -34,7 +34,7 @@ unfolding state_of
 returns-then-r-ne0 c =
     let a = c.args in
     let turn = c.loop-k in
-    let b = now-at a.board turn.digits turn.notes turn.solved turn.counts in
+    let b = now_at a.board turn.digits turn.notes turn.solved turn.counts in
     let r = c.next_refusal-r.ensures in
     let stops = next_stops b turn.journal turn.k c.move_at-m.result (λ p. c.if-r-ne0.true (ap (λ (x : Refusal). x.number) r ∙ p)) in
     let e = stops ∙ ap (λ (x : Refusal). played x b turn.journal) (sym r) in
@@ -51,7 +51,7 @@ unfolding state_of counts_of
 loop-k-preserved c =
     let a = c.args in
     let turn = c.loop-k in
-    let b = now-at a.board turn.digits turn.notes turn.solved turn.counts in
+    let b = now_at a.board turn.digits turn.notes turn.solved turn.counts in
     let goes = sym (ap (λ (x : Refusal). x.number) c.next_refusal-r.ensures) ∙ c.if-r-ne0.false in
     let deed = c.make_in-solved.ensures a.board.given in
     let made = next_made b turn.journal turn.k c.move_at-m.result goes _ _ _ _ deed.0 c.after_record-next.ensures in
@@ -71,7 +71,7 @@ pub returns : goal.returns
 returns c =
     let a = c.args in
     let turn = c.loop-k in
-    let b = now-at a.board turn.digits turn.notes turn.solved turn.counts in
+    let b = now_at a.board turn.digits turn.notes turn.solved turn.counts in
     let end = replay_ends a.bytes.now turn.at turn.k a.count (answer accepted b) turn.journal (omega arith) refl in (
       rw (c.accepted.ensures, c.with_parts-2.ensures) (end.0 ∙ ap (λ (x : Played). x.answer) turn.invariant.5),
       end.1 ∙ ap (λ (x : Played). x.journal) turn.invariant.5,

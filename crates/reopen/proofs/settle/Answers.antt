@@ -29,18 +29,18 @@ read_checks-r-requires c =
 pub returns-then-r-ne0 : goal.returns-then-r-ne0
 returns-then-r-ne0 c =
     let a = c.args in
-    let take-back-all = c.taken_back-back in
-    let read-checks = c.read_checks-r in
-    reopens_refused _ _ _ _ read-checks.result (settled_refused a.undone (asks_at a.bytes.now (length a.bytes.now - check_item_bytes * a.count) a.count) a.board a.journal.now (sym c.is_undone_solved.ensures ∙ c.if-is_undone_solved.false) take-back-all.result take-back-all.ensures read-checks.result read-checks.ensures.0 c.if-r-ne0.true) refl c.if-r-ne0.true
+    let take_back_all = c.taken_back-back in
+    let read_checks = c.read_checks-r in
+    reopens_refused _ _ _ _ read_checks.result (settled_refused a.undone (asks_at a.bytes.now (length a.bytes.now - check_item_bytes * a.count) a.count) a.board a.journal.now (sym c.is_undone_solved.ensures ∙ c.if-is_undone_solved.false) take_back_all.result take_back_all.ensures read_checks.result read_checks.ensures.0 c.if-r-ne0.true) refl c.if-r-ne0.true
 
 pub returns : goal.returns
 unfolding board_of state_of counts_of
 returns c =
     let a = c.args in
-    let take-back-all = c.taken_back-back in
-    let read-checks = c.read_checks-r in
+    let take_back_all = c.taken_back-back in
+    let read_checks = c.read_checks-r in
     let accepted = c.accepted in
     reopens_given _ _ _ _
-    (settled_gives a.undone (asks_at a.bytes.now (length a.bytes.now - check_item_bytes * a.count) a.count) a.board a.journal.now (sym c.is_undone_solved.ensures ∙ c.if-is_undone_solved.false) take-back-all.result take-back-all.ensures read-checks.result read-checks.ensures.0 c.if-r-ne0.false accepted.result a.count _ accepted.ensures
+    (settled_gives a.undone (asks_at a.bytes.now (length a.bytes.now - check_item_bytes * a.count) a.count) a.board a.journal.now (sym c.is_undone_solved.ensures ∙ c.if-is_undone_solved.false) take_back_all.result take_back_all.ensures read_checks.result read_checks.ensures.0 c.if-r-ne0.false accepted.result a.count _ accepted.ensures
     (sym (asks_length a.bytes.now (length a.bytes.now - check_item_bytes * a.count) a.count))
-    (read-checks.ensures.1 c.if-r-ne0.false ∙ ap (λ (l : List ℕ). over l 0 (stored_of take-back-all.result.solution (asks_at a.bytes.now (length a.bytes.now - check_item_bytes * a.count) a.count))) c.requires.2))
+    (read_checks.ensures.1 c.if-r-ne0.false ∙ ap (λ (l : List ℕ). over l 0 (stored_of take_back_all.result.solution (asks_at a.bytes.now (length a.bytes.now - check_item_bytes * a.count) a.count))) c.requires.2))

@@ -23,10 +23,10 @@ flag_by true flag =
     lt-leb flag 0 l ∙ sym (both_false_right _ _ (ap not (both_true _ _ (ap not f) refl))))
 flag_by false flag = sym (both_second _ _ (ap not (both_false_right (is_on flag) false refl)))
 
-all-four : (a b c d : Bool) → (((a && b) && c) && d) ≡ both a (both (both b c) d)
-all-four a b c d =
+all_four : (a b c d : Bool) → (((a && b) && c) && d) ≡ both a (both (both b c) d)
+all_four a b c d =
     rw (and_both a b, and_both (both a b) c, and_both (both (both a b) c) d, both_assoc a b c) (both_assoc a (both b c) d)
 
 pub returns : goal.returns
 unfolding may_stand
-returns c = rw (c.greatest_flag-flag.ensures, c.in_range.ensures, flag_by (eqb c.args.digit 0) c.args.given) (all-four _ _ _ _)
+returns c = rw (c.greatest_flag-flag.ensures, c.in_range.ensures, flag_by (eqb c.args.digit 0) c.args.given) (all_four _ _ _ _)

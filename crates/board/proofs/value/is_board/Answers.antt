@@ -13,61 +13,61 @@ use Rattle.board.specs.Board.{is_board, digit_value, note_value, solution_value}
 use Rattle.board.proofs.value.is_board.Goals as goal
 
 module _ (b : Board) where
-  too-many-made : max_moves < b.made → is_board b ≡ false
+  too_many_made : max_moves < b.made → is_board b ≡ false
   unfolding is_board both
-  too-many-made h = rw (lt-leb _ _ h)
+  too_many_made h = rw (lt-leb _ _ h)
 
   module _ (m : b.made ≤ max_moves) where
-    too-many-standing : b.made < b.standing → is_board b ≡ false
+    too_many_standing : b.made < b.standing → is_board b ≡ false
     unfolding is_board both
-    too-many-standing h = rw (le-leb _ _ m, lt-leb _ _ h)
+    too_many_standing h = rw (le-leb _ _ m, lt-leb _ _ h)
 
     module _ (s : b.standing ≤ b.made) where
-      too-many-checks : max_checks < b.checks → is_board b ≡ false
+      too_many_checks : max_checks < b.checks → is_board b ≡ false
       unfolding is_board both
-      too-many-checks h = rw (le-leb _ _ m, le-leb _ _ s, lt-leb _ _ h)
+      too_many_checks h = rw (le-leb _ _ m, le-leb _ _ s, lt-leb _ _ h)
 
       module _ (k : b.checks ≤ max_checks) where
-        no-status : 1 < b.solved → is_board b ≡ false
+        no_status : 1 < b.solved → is_board b ≡ false
         unfolding is_board both
-        no-status h = rw (le-leb _ _ m, le-leb _ _ s, le-leb _ _ k, lt-leb _ _ h)
+        no_status h = rw (le-leb _ _ m, le-leb _ _ s, le-leb _ _ k, lt-leb _ _ h)
 
       module _ (k : b.checks ≤ max_checks) (o : b.solved ≤ 1) where
-        no-notes : every (note_value b.notes) 81 1 ≡ false → is_board b ≡ false
+        no_notes : every (note_value b.notes) 81 1 ≡ false → is_board b ≡ false
         unfolding is_board both
-        no-notes h = rw (le-leb _ _ m, le-leb _ _ s, le-leb _ _ k, le-leb _ _ o, h) (both_false_right (every (digit_value b.digits b.given) 81 1) false refl)
+        no_notes h = rw (le-leb _ _ m, le-leb _ _ s, le-leb _ _ k, le-leb _ _ o, h) (both_false_right (every (digit_value b.digits b.given) 81 1) false refl)
 
-        by-cells : every (note_value b.notes) 81 1 ≡ true → is_board b ≡ both (every (digit_value b.digits b.given) 81 1) (every (solution_value b.solution) 81 1)
+        by_cells : every (note_value b.notes) 81 1 ≡ true → is_board b ≡ both (every (digit_value b.digits b.given) 81 1) (every (solution_value b.solution) 81 1)
         unfolding is_board both
-        by-cells h = rw (le-leb _ _ m, le-leb _ _ s, le-leb _ _ k, le-leb _ _ o, h)
+        by_cells h = rw (le-leb _ _ m, le-leb _ _ s, le-leb _ _ k, le-leb _ _ o, h)
 
 pub returns-then-board-gt-MAX_MOVES : goal.returns-then-board-gt-MAX_MOVES
 returns-then-board-gt-MAX_MOVES c =
     let a = c.args in
-    sym (too-many-made a.board c.if-board-gt-MAX_MOVES.true)
+    sym (too_many_made a.board c.if-board-gt-MAX_MOVES.true)
 
 pub returns-then-board : goal.returns-then-board
 returns-then-board c =
     let a = c.args in
-    sym (too-many-standing a.board c.if-board-gt-MAX_MOVES.false c.if-board.true)
+    sym (too_many_standing a.board c.if-board-gt-MAX_MOVES.false c.if-board.true)
 
 pub returns-then-board-gt-MAX_CHECKS : goal.returns-then-board-gt-MAX_CHECKS
 returns-then-board-gt-MAX_CHECKS c =
     let a = c.args in
-    sym (too-many-checks a.board c.if-board-gt-MAX_MOVES.false c.if-board.false c.if-board-gt-MAX_CHECKS.true)
+    sym (too_many_checks a.board c.if-board-gt-MAX_MOVES.false c.if-board.false c.if-board-gt-MAX_CHECKS.true)
 
 pub returns-then-board-gt1 : goal.returns-then-board-gt1
 returns-then-board-gt1 c =
     let a = c.args in
-    sym (no-status a.board c.if-board-gt-MAX_MOVES.false c.if-board.false c.if-board-gt-MAX_CHECKS.false c.if-board-gt1.true)
+    sym (no_status a.board c.if-board-gt-MAX_MOVES.false c.if-board.false c.if-board-gt-MAX_CHECKS.false c.if-board-gt1.true)
 
 pub returns-then-not-note_values : goal.returns-then-not-note_values
 returns-then-not-note_values c =
     let a = c.args in
-    sym (no-notes a.board c.if-board-gt-MAX_MOVES.false c.if-board.false c.if-board-gt-MAX_CHECKS.false c.if-board-gt1.false (sym c.note_values.ensures ∙ c.if-not-note_values.true))
+    sym (no_notes a.board c.if-board-gt-MAX_MOVES.false c.if-board.false c.if-board-gt-MAX_CHECKS.false c.if-board-gt1.false (sym c.note_values.ensures ∙ c.if-not-note_values.true))
 
 pub returns : goal.returns
 returns c =
     let a = c.args in
     c.cell_values.ensures
-    ∙ sym (by-cells a.board c.if-board-gt-MAX_MOVES.false c.if-board.false c.if-board-gt-MAX_CHECKS.false c.if-board-gt1.false (sym c.note_values.ensures ∙ c.if-not-note_values.false))
+    ∙ sym (by_cells a.board c.if-board-gt-MAX_MOVES.false c.if-board.false c.if-board-gt-MAX_CHECKS.false c.if-board-gt1.false (sym c.note_values.ensures ∙ c.if-not-note_values.false))

@@ -26,24 +26,24 @@ module _ (bytes : List ℕ) (i : ℕ) where
   unfolding given_in given_at
   item = ap (given_from bytes) (add_comm (4 * i) 1)
 
-  triple-past : length bytes / 3 < i → given_from bytes (length bytes) ≡ given_in Triples bytes i
+  triple_past : length bytes / 3 < i → given_from bytes (length bytes) ≡ given_in Triples bytes i
   unfolding given_in given_at
-  triple-past h = given_past bytes (length bytes) (omega arith) ∙ sym (given_past bytes (0 + 3 * i) (omega arith))
+  triple_past h = given_past bytes (length bytes) (omega arith) ∙ sym (given_past bytes (0 + 3 * i) (omega arith))
 
-  item-past : length bytes / 4 < i → given_from bytes (length bytes) ≡ given_in Items bytes i
+  item_past : length bytes / 4 < i → given_from bytes (length bytes) ≡ given_in Items bytes i
   unfolding given_in given_at
-  item-past h = given_past bytes (length bytes) (omega arith) ∙ sym (given_past bytes (1 + 4 * i) (omega arith))
+  item_past h = given_past bytes (length bytes) (omega arith) ∙ sym (given_past bytes (1 + 4 * i) (omega arith))
 
 pub returns-then-i-bytes : goal.returns-then-i-bytes
 returns-then-i-bytes c =
     let a = c.args in
-    c.given_from.ensures ∙ triple-past a.bytes.now a.i c.if-i-bytes.true ∙ told a.bytes.now a.i
+    c.given_from.ensures ∙ triple_past a.bytes.now a.i c.if-i-bytes.true ∙ told a.bytes.now a.i
     c.in-Triples.is
 
 pub returns-then-i-bytes-2 : goal.returns-then-i-bytes-2
 returns-then-i-bytes-2 c =
     let a = c.args in
-    c.given_from-then-i-bytes-2.ensures ∙ item-past a.bytes.now a.i c.if-i-bytes-2.true ∙ told a.bytes.now a.i
+    c.given_from-then-i-bytes-2.ensures ∙ item_past a.bytes.now a.i c.if-i-bytes-2.true ∙ told a.bytes.now a.i
     c.in-Items.is
 
 pub returns-else-i-bytes : goal.returns-else-i-bytes

@@ -21,9 +21,9 @@ use Rattle.puzzle.proofs.Rows.{flat_position}
 use Rattle.puzzle.proofs.vouch.given_matches.Goals as goal
 
 module _ (s : List ℕ) (g : Given) (index : ℕ) where
-  off-grid : on_grid g.row g.column ≡ false → given_matches s g index ≡ refusal 26 index 0
+  off_grid : on_grid g.row g.column ≡ false → given_matches s g index ≡ refusal 26 index 0
   unfolding given_matches
-  off-grid p =
+  off_grid p =
       or_else_by _ _ (refusal 26 index 0) (refused_if_lem _ (refusal 26 index 0) (not_is_true (on_grid g.row g.column) p)) (eqb-false 26 0 refl)
 
   module _ (p : on_grid g.row g.column ≡ true) where
@@ -44,7 +44,7 @@ module _ (s : List ℕ) (g : Given) (index : ℕ) where
 pub returns-then-not-on_grid : goal.returns-then-not-on_grid
 returns-then-not-on_grid c =
     let a = c.args in
-    c.refusal.ensures ∙ sym (off-grid (flat a.rows) a.g a.index (sym c.on_grid.ensures ∙ c.if-not-on_grid.true))
+    c.refusal.ensures ∙ sym (off_grid (flat a.rows) a.g a.index (sym c.on_grid.ensures ∙ c.if-not-on_grid.true))
 
 pub overflow_sub-r : goal.overflow_sub-r
 overflow_sub-r c = omega (

@@ -31,8 +31,8 @@ module _ (gs : List Given) (s : List ℕ) where
     some_left = or_else_past _ _ (if_not (leb 81 (length gs)) (refusal 22 0 0) (lt-leb 81 (length gs) h))
 
     module _ (f : Refusal) (e : f ≡ first_refused (solution_digit s) 81 1) where
-      not-filled : (f.number ≡ 0 → ⊥) → vouch gs s ≡ f
-      not-filled n = some_left ∙ or_else_by _ _ f (sym e) n
+      not_filled : (f.number ≡ 0 → ⊥) → vouch gs s ≡ f
+      not_filled n = some_left ∙ or_else_by _ _ f (sym e) n
 
       module _ (z : f.number ≡ 0) (r : Refusal) (d : r ≡ first_refused (solution_conflict s) 81 1) where
         full : vouch gs s ≡ or_else r (givens_match s gs 1)
@@ -41,11 +41,11 @@ module _ (gs : List Given) (s : List ℕ) where
             ∙ or_else_passed _ _ (ap (λ (x : Refusal). x.number) (sym e) ∙ z)
             ∙ ap (λ (x : Refusal). or_else x (givens_match s gs 1)) (sym d)
 
-        in-conflict : (r.number ≡ 0 → ⊥) → vouch gs s ≡ r
-        in-conflict n = full ∙ or_else_by r (givens_match s gs 1) r refl n
+        in_conflict : (r.number ≡ 0 → ⊥) → vouch gs s ≡ r
+        in_conflict n = full ∙ or_else_by r (givens_match s gs 1) r refl n
 
-        to-match : r.number ≡ 0 → vouch gs s ≡ givens_match s gs 1
-        to-match n = full ∙ or_else_passed r (givens_match s gs 1) n
+        to_match : r.number ≡ 0 → vouch gs s ≡ givens_match s gs 1
+        to_match n = full ∙ or_else_passed r (givens_match s gs 1) n
 
 pub returns-then-count-ge-CELLS : goal.returns-then-count-ge-CELLS
 returns-then-count-ge-CELLS c =
@@ -57,7 +57,7 @@ pub returns-then-empty-ne0 : goal.returns-then-empty-ne0
 returns-then-empty-ne0 c =
     let a = c.args in
     let fill = c.filled-empty in
-    sym (not-filled (givens_in a.layout a.bytes.now a.count) (flat a.rows)
+    sym (not_filled (givens_in a.layout a.bytes.now a.count) (flat a.rows)
     (omega (arith, length_givens a.layout a.bytes.now a.count)) fill.result fill.ensures c.if-empty-ne0.true)
 
 pub returns-then-conflict-ne0 : goal.returns-then-conflict-ne0
@@ -65,7 +65,7 @@ returns-then-conflict-ne0 c =
     let a = c.args in
     let fill = c.filled-empty in
     let test = c.consistent-conflict in
-    sym (in-conflict (givens_in a.layout a.bytes.now a.count) (flat a.rows)
+    sym (in_conflict (givens_in a.layout a.bytes.now a.count) (flat a.rows)
     (omega (arith, length_givens a.layout a.bytes.now a.count)) fill.result fill.ensures
     c.if-empty-ne0.false test.result
     test.ensures c.if-conflict-ne0.true)
@@ -76,7 +76,7 @@ returns c =
     let fill = c.filled-empty in
     let test = c.consistent-conflict in
     c.matches.ensures
-    ∙ sym (to-match (givens_in a.layout a.bytes.now a.count) (flat a.rows)
+    ∙ sym (to_match (givens_in a.layout a.bytes.now a.count) (flat a.rows)
     (omega (arith, length_givens a.layout a.bytes.now a.count)) fill.result fill.ensures
     c.if-empty-ne0.false test.result
     test.ensures c.if-conflict-ne0.false)

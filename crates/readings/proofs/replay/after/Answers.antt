@@ -16,13 +16,13 @@ use Rattle.readings.proofs.replay.after.Goals as goal
 
 -- what the opening board is: its state, and the rest of the board as it came
 module _ (b : Board) where
-  opened-state : state_of (opening_board b) ≡ opening_of b
+  opened_state : state_of (opening_board b) ≡ opening_of b
   unfolding state_of opening_board board_of moved
-  opened-state = refl
+  opened_state = refl
 
-  rest-stays : (s : State) → moved (opening_board b) s (counts_of (opening_board b)) ≡ moved b s (counts_of b)
+  rest_stays : (s : State) → moved (opening_board b) s (counts_of (opening_board b)) ≡ moved b s (counts_of b)
   unfolding opening_board counts_of board_of moved
-  rest-stays s = refl
+  rest_stays s = refl
 
 pub loop-i-init : goal.loop-i-init
 unfolding state_of
@@ -52,9 +52,9 @@ returns c =
     let s = parts opened.result.given turn.digits turn.notes turn.solved in
     let stood : s ≡ state_after a.board a.journal.now a.k =
     sym
-    (ap (λ (t : State). run (apply_slot a.journal.now) t a.k 1) (sym (ap state_of opened.ensures ∙ opened-state a.board))
+    (ap (λ (t : State). run (apply_slot a.journal.now) t a.k 1) (sym (ap state_of opened.ensures ∙ opened_state a.board))
     ∙ turn.invariant.1
     ∙ run_all (apply_slot a.journal.now) s (a.k + 1) (turn.i + 1) (omega (arith, c.loop-i-test.false))) in
     ap (λ (t : State). moved opened.result t (counts_of opened.result)) stood
     ∙ ap (λ (b : Board). moved b (state_after a.board a.journal.now a.k) (counts_of b)) opened.ensures
-    ∙ rest-stays a.board (state_after a.board a.journal.now a.k)
+    ∙ rest_stays a.board (state_after a.board a.journal.now a.k)

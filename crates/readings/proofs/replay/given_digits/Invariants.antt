@@ -9,11 +9,11 @@ use Rattle.sudoku.specs.Tests.{pick, listed}
 use Rattle.sudoku.specs.Grid.{at}
 use Rattle.readings.proofs.replay.given_digits.Given as goal
 
-abbrev pub digitOf : List ℕ → List ℕ → ℕ → ℕ
-digitOf given digits cell = pick (is_given given cell) (at digits cell) 0
+abbrev pub digit_of : List ℕ → List ℕ → ℕ → ℕ
+digit_of given digits cell = pick (is_given given cell) (at digits cell) 0
 
 abbrev pub invariant-loop-i : goal.invariant-loop-i
-invariant-loop-i l = (l.i ≤ 81) × (length l.out ≡ 81) × (take l.i l.out ≡ listed (λ (n : ℕ). digitOf l.given l.digits (n + 1)) l.i 0)
+invariant-loop-i l = (l.i ≤ 81) × (length l.out ≡ 81) × (take l.i l.out ≡ listed (λ (n : ℕ). digit_of l.given l.digits (n + 1)) l.i 0)
 
 abbrev pub decreases-loop-i : goal.decreases-loop-i
 decreases-loop-i l = 81 - l.i

@@ -27,8 +27,8 @@ unfolding encode check_item
 loop-n-preserved c =
     let a = c.args in
     let turn = c.loop-n in
-    let lay-check = c.lay_check-at in
-    (omega arith, omega arith, laying_more _ _ _ _ _ _ turn.invariant.2 (encode (check_item (asked_at a.checks.now turn.n))) (items_left check_item (asked_at a.checks.now) (a.count + 1) (turn.n + 1)) _ _ (items_turn check_item (asked_at a.checks.now) (a.count + 1) turn.n (omega arith)) lay-check.ensures.0 lay-check.ensures.1)
+    let lay_check = c.lay_check-at in
+    (omega arith, omega arith, laying_more _ _ _ _ _ _ turn.invariant.2 (encode (check_item (asked_at a.checks.now turn.n))) (items_left check_item (asked_at a.checks.now) (a.count + 1) (turn.n + 1)) _ _ (items_turn check_item (asked_at a.checks.now) (a.count + 1) turn.n (omega arith)) lay_check.ensures.0 lay_check.ensures.1)
 
 pub shape_of-output : goal.shape_of-output
 shape_of-output c =

@@ -36,10 +36,10 @@ pub returns : goal.returns
 unfolding given_bytes
 returns c =
     let a = c.args in
-    let lay-four = c.lay_four in
+    let lay_four = c.lay_four in
     let item : given_bytes a.given.now a.digits.now a.cell ≡ (1 ∷ row_of a.cell ∷ column_of a.cell ∷ at a.digits.now a.cell ∷ []) = pick_true (is_given a.given.now a.cell) (1 ∷ row_of a.cell ∷ column_of a.cell ∷ at a.digits.now a.cell ∷ []) [] (sym c.is_given.ensures ∙ c.if-not-is_given.false) in (
-      lay-four.ensures.0 ∙ ap (λ (l : List ℕ). a.at + length l) (sym item),
-      lay-four.ensures.1
+      lay_four.ensures.0 ∙ ap (λ (l : List ℕ). a.at + length l) (sym item),
+      lay_four.ensures.1
           ∙ (λ j. over a.output.now a.at (1 ∷ c.row_of-row.ensures j ∷ c.column_of-column.ensures.0 j ∷ c.digit_at.ensures j ∷ []))
           ∙ ap (over a.output.now a.at) (sym item),
     )

@@ -24,8 +24,8 @@ pub loop-cell-preserved : goal.loop-cell-preserved
 loop-cell-preserved c =
     let a = c.args in
     let turn = c.loop-cell in
-    let lay-given = c.lay_given-at in
-    (omega arith, omega arith, laying_more _ _ _ _ _ _ turn.invariant.2 (given_bytes a.board.given a.board.digits turn.cell) (givens_left a.board (turn.cell + 1)) _ _ (givens_turn a.board turn.cell (omega arith)) lay-given.ensures.0 lay-given.ensures.1)
+    let lay_given = c.lay_given-at in
+    (omega arith, omega arith, laying_more _ _ _ _ _ _ turn.invariant.2 (given_bytes a.board.given a.board.digits turn.cell) (givens_left a.board (turn.cell + 1)) _ _ (givens_turn a.board turn.cell (omega arith)) lay_given.ensures.0 lay_given.ensures.1)
 
 pub shape_of-output : goal.shape_of-output
 shape_of-output c =

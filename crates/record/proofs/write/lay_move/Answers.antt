@@ -34,34 +34,34 @@ pub returns-in-Place : goal.returns-in-Place
 unfolding encode
 returns-in-Place c =
     let a = c.args in
-    let lay-four = c.lay_four in (
-      lay-four.ensures.0 ∙ ap (λ (m : Move). a.at + length (encode (Played m))) (sym c.in-Place.is),
-      lay-four.ensures.1 ∙ ap (λ (m : Move). over a.output.now a.at (encode (Played m))) (sym c.in-Place.is),
+    let lay_four = c.lay_four in (
+      lay_four.ensures.0 ∙ ap (λ (m : Move). a.at + length (encode (Played m))) (sym c.in-Place.is),
+      lay_four.ensures.1 ∙ ap (λ (m : Move). over a.output.now a.at (encode (Played m))) (sym c.in-Place.is),
     )
 
 pub returns-in-Erase : goal.returns-in-Erase
 unfolding encode
 returns-in-Erase c =
     let a = c.args in
-    let lay-three = c.lay_three in (
-      lay-three.ensures.0 ∙ ap (λ (m : Move). a.at + length (encode (Played m))) (sym c.in-Erase.is),
-      lay-three.ensures.1 ∙ ap (λ (m : Move). over a.output.now a.at (encode (Played m))) (sym c.in-Erase.is),
+    let lay_three = c.lay_three in (
+      lay_three.ensures.0 ∙ ap (λ (m : Move). a.at + length (encode (Played m))) (sym c.in-Erase.is),
+      lay_three.ensures.1 ∙ ap (λ (m : Move). over a.output.now a.at (encode (Played m))) (sym c.in-Erase.is),
     )
 
 pub returns-in-WriteMark : goal.returns-in-WriteMark
 unfolding encode
 returns-in-WriteMark c =
     let a = c.args in
-    let lay-four2 = c.lay_four-in-WriteMark in (
-      lay-four2.ensures.0 ∙ ap (λ (m : Move). a.at + length (encode (Played m))) (sym c.in-WriteMark.is),
-      lay-four2.ensures.1 ∙ ap (λ (m : Move). over a.output.now a.at (encode (Played m))) (sym c.in-WriteMark.is),
+    let lay_four2 = c.lay_four-in-WriteMark in (
+      lay_four2.ensures.0 ∙ ap (λ (m : Move). a.at + length (encode (Played m))) (sym c.in-WriteMark.is),
+      lay_four2.ensures.1 ∙ ap (λ (m : Move). over a.output.now a.at (encode (Played m))) (sym c.in-WriteMark.is),
     )
 
 pub returns-in-StrikeMark : goal.returns-in-StrikeMark
 unfolding encode
 returns-in-StrikeMark c =
     let a = c.args in
-    let lay-four3 = c.lay_four-in-StrikeMark in (
-      lay-four3.ensures.0 ∙ ap (λ (m : Move). a.at + length (encode (Played m))) (sym c.in-StrikeMark.is),
-      lay-four3.ensures.1 ∙ ap (λ (m : Move). over a.output.now a.at (encode (Played m))) (sym c.in-StrikeMark.is),
+    let lay_four3 = c.lay_four-in-StrikeMark in (
+      lay_four3.ensures.0 ∙ ap (λ (m : Move). a.at + length (encode (Played m))) (sym c.in-StrikeMark.is),
+      lay_four3.ensures.1 ∙ ap (λ (m : Move). over a.output.now a.at (encode (Played m))) (sym c.in-StrikeMark.is),
     )

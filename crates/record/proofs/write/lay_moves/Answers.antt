@@ -27,9 +27,9 @@ pub loop-n-preserved : goal.loop-n-preserved
 loop-n-preserved c =
     let a = c.args in
     let turn = c.loop-n in
-    let lay-move = c.lay_move-at in
+    let lay_move = c.lay_move-at in
     let made = c.move_of.ensures ∙ ap move_of c.slot_at.ensures in
-    (omega arith, omega arith, laying_more _ _ _ _ _ _ turn.invariant.2 (encode (Played (move_in a.journal.now turn.n))) (items_left Played (move_in a.journal.now) (a.made + 1) (turn.n + 1)) _ _ (items_turn Played (move_in a.journal.now) (a.made + 1) turn.n (omega arith)) (lay-move.ensures.0 ∙ ap (λ (m : Move). turn.at + length (encode (Played m))) made) (lay-move.ensures.1 ∙ ap (λ (m : Move). over turn.output turn.at (encode (Played m))) made))
+    (omega arith, omega arith, laying_more _ _ _ _ _ _ turn.invariant.2 (encode (Played (move_in a.journal.now turn.n))) (items_left Played (move_in a.journal.now) (a.made + 1) (turn.n + 1)) _ _ (items_turn Played (move_in a.journal.now) (a.made + 1) turn.n (omega arith)) (lay_move.ensures.0 ∙ ap (λ (m : Move). turn.at + length (encode (Played m))) made) (lay_move.ensures.1 ∙ ap (λ (m : Move). over turn.output turn.at (encode (Played m))) made))
 
 pub shape_of-output : goal.shape_of-output
 shape_of-output c =

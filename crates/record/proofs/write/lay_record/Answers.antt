@@ -13,31 +13,31 @@ pub lay_moves-count-requires : goal.lay_moves-count-requires
 lay_moves-count-requires c =
     let pre = c.requires in
     let a = c.args in
-    let lay-givens = c.lay_givens-moves in
-    (pre.0, moves_room a.board a.journal.now a.checks.now a.output.now pre.3 _ lay-givens.result lay-givens.ensures.0 lay-givens.ensures.1)
+    let lay_givens = c.lay_givens-moves in
+    (pre.0, moves_room a.board a.journal.now a.checks.now a.output.now pre.3 _ lay_givens.result lay_givens.ensures.0 lay_givens.ensures.1)
 
 pub lay_three-asked-requires : goal.lay_three-asked-requires
 lay_three-asked-requires c =
     let a = c.args in
-    let lay-givens = c.lay_givens-moves in
-    let lay-moves = c.lay_moves-count in
-    count_room a.board a.journal.now a.checks.now a.output.now c.requires.3 _ lay-givens.result lay-givens.ensures.0 lay-givens.ensures.1 _ lay-moves.result lay-moves.ensures.0 lay-moves.ensures.1
+    let lay_givens = c.lay_givens-moves in
+    let lay_moves = c.lay_moves-count in
+    count_room a.board a.journal.now a.checks.now a.output.now c.requires.3 _ lay_givens.result lay_givens.ensures.0 lay_givens.ensures.1 _ lay_moves.result lay_moves.ensures.0 lay_moves.ensures.1
 
 pub lay_checks-requires : goal.lay_checks-requires
 unfolding low second
 lay_checks-requires c =
     let pre = c.requires in
     let a = c.args in
-    let lay-givens = c.lay_givens-moves in
-    let lay-moves = c.lay_moves-count in
-    let lay-three = c.lay_three-asked in
-    (pre.2, checks_room a.board a.journal.now a.checks.now a.output.now pre.3 _ lay-givens.result lay-givens.ensures.0 lay-givens.ensures.1 _ lay-moves.result lay-moves.ensures.0 lay-moves.ensures.1 _ lay-three.result lay-three.ensures.0 lay-three.ensures.1)
+    let lay_givens = c.lay_givens-moves in
+    let lay_moves = c.lay_moves-count in
+    let lay_three = c.lay_three-asked in
+    (pre.2, checks_room a.board a.journal.now a.checks.now a.output.now pre.3 _ lay_givens.result lay_givens.ensures.0 lay_givens.ensures.1 _ lay_moves.result lay_moves.ensures.0 lay_moves.ensures.1 _ lay_three.result lay_three.ensures.0 lay_three.ensures.1)
 
 pub returns : goal.returns
 unfolding low second
 returns c =
     let a = c.args in
-    let lay-givens = c.lay_givens-moves in
-    let lay-moves = c.lay_moves-count in
-    let lay-three = c.lay_three-asked in
-    record_laid a.board a.journal.now a.checks.now a.output.now c.requires.3 _ lay-givens.result lay-givens.ensures.0 lay-givens.ensures.1 _ lay-moves.result lay-moves.ensures.0 lay-moves.ensures.1 _ lay-three.result lay-three.ensures.0 lay-three.ensures.1 _ c.lay_checks.ensures.1
+    let lay_givens = c.lay_givens-moves in
+    let lay_moves = c.lay_moves-count in
+    let lay_three = c.lay_three-asked in
+    record_laid a.board a.journal.now a.checks.now a.output.now c.requires.3 _ lay_givens.result lay_givens.ensures.0 lay_givens.ensures.1 _ lay_moves.result lay_moves.ensures.0 lay_moves.ensures.1 _ lay_three.result lay_three.ensures.0 lay_three.ensures.1 _ c.lay_checks.ensures.1

@@ -19,16 +19,16 @@ loop-n-init c =
 pub loop-n-preserved : goal.loop-n-preserved
 loop-n-preserved c =
     let a = c.args in
-    let move-length = c.move_length-total in
+    let move_length = c.move_length-total in
     let turn = c.loop-n in
     let rest = items_left Played (move_in a.journal.now) (a.made + 1) (turn.n + 1) in (
       omega arith,
       omega arith,
-      omega (arith, move-length.ensures.1, turn.invariant.2),
+      omega (arith, move_length.ensures.1, turn.invariant.2),
       omega (
         arith,
         turn.invariant.3,
-        move-length.ensures.0 ∙ ap (λ (m : Move). length (encode (Played m))) (c.move_of.ensures ∙ ap move_of c.slot_at.ensures),
+        move_length.ensures.0 ∙ ap (λ (m : Move). length (encode (Played m))) (c.move_of.ensures ∙ ap move_of c.slot_at.ensures),
         ap length (items_turn Played (move_in a.journal.now) (a.made + 1) c.loop-n.n (omega arith)),
         length-append (encode (Played (move_in a.journal.now turn.n))) rest,
       ),

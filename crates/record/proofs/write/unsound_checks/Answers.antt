@@ -17,15 +17,15 @@ pub returns-then-r-ne0 : goal.returns-then-r-ne0
 returns-then-r-ne0 c =
     let a = c.args in
     let turn = c.loop-n in
-    let unsound-check = c.unsound_check-r in
-    sym (turn.invariant.2 ∙ walk_refused (unsound_check a.given.now a.checks.now) (a.count + 1) turn.n unsound-check.result (omega arith) unsound-check.ensures c.if-r-ne0.true)
+    let one_check = c.unsound_check-r in
+    sym (turn.invariant.2 ∙ walk_refused (unsound_check a.given.now a.checks.now) (a.count + 1) turn.n one_check.result (omega arith) one_check.ensures c.if-r-ne0.true)
 
 pub loop-n-preserved : goal.loop-n-preserved
 loop-n-preserved c =
     let a = c.args in
     let turn = c.loop-n in
-    let unsound-check = c.unsound_check-r in
-    (omega arith, omega arith, turn.invariant.2 ∙ walk_more (unsound_check a.given.now a.checks.now) (a.count + 1) turn.n unsound-check.result (omega arith) unsound-check.ensures c.if-r-ne0.false)
+    let one_check = c.unsound_check-r in
+    (omega arith, omega arith, turn.invariant.2 ∙ walk_more (unsound_check a.given.now a.checks.now) (a.count + 1) turn.n one_check.result (omega arith) one_check.ensures c.if-r-ne0.false)
 
 pub returns : goal.returns
 returns c =
