@@ -10,19 +10,9 @@ pub fn argument<R: Env>(rt: &R, i: usize, memory: &mut [u8; PATH_MAX]) -> usize
     ensures { result ≤ path_max }
 {
     match rt.arg(i, memory) {
-        Ok(length) => within(length),
+        Ok(length) => length,
         Err(_) => 0,
     }
-}
-
-// A length that the memory has room for.
-fn within(length: usize) -> usize
-    ensures { result ≤ path_max }
-{
-    if length > PATH_MAX {
-        return PATH_MAX;
-    }
-    length
 }
 
 // How many words there are, the program's name among them.

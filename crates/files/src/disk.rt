@@ -351,8 +351,8 @@ fn saved<R: Files>(rt: &R, path: &[u8], length: usize, bytes: &[u8]) -> io::Resu
 }
 
 // What became of a save, in words where it failed.
-fn told(path: &[u8], saved: io::Result<()>) -> bool {
-    match saved {
+fn told(path: &[u8], outcome: io::Result<()>) -> bool {
+    match outcome {
         Ok(()) => true,
         Err(error) => {
             failed(b"cannot write ", path, &error);
