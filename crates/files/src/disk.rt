@@ -2,7 +2,7 @@
 ghost use Rattle.std.specs.Prelude.{◌≡◌, false, ◌≤◌, ◌<◌, length};
 ghost use Rattle.texts.specs.Parts.{part_of};
 ghost use Rattle.texts.specs.Grids.{no_cells};
-ghost use Rattle.files.specs.Disk.{file_bytes, name_bytes, ReadInto, is_whole, whole_cells, CellsRead};
+ghost use Rattle.files.specs.Disk.{file_bytes, path_max, name_bytes, ReadInto, is_whole, whole_cells, CellsRead};
 
 use crate::Got;
 use print::{number, say, shown};
@@ -254,7 +254,7 @@ fn name_byte(path: &[u8], i: usize, n: usize) -> u8 {
 
 // The first `length` characters of the new file's name, with a number.
 fn new_name(path: &[u8], length: usize, n: usize) -> [u8; PATH_MAX]
-    requires { length ≤ 4096 }
+    requires { length ≤ path_max }
 {
     let mut name = [0u8; PATH_MAX];
     let mut i: usize = 0;
@@ -289,13 +289,15 @@ fn created<R: Files>(
     length: usize,
     name: &mut [u8; PATH_MAX],
 ) -> io::Result<R::File>
-    requires { length ≤ 4096 }
+    requires { length ≤ path_max }
 {
     for n in 0..NUMBERS {
         let next = new_name(path, length, n);
-        *name = next;
         match create_new(rt, &next[..length]) {
-            Ok(file) => return Ok(file),
+            Ok(file) => {
+                *name = next;
+                return Ok(file);
+            }
             Err(error) => match error.kind() {
                 ErrorKind::AlreadyExists => {}
                 _ => return Err(error),
@@ -343,7 +345,7 @@ fn save_as<R: Files>(
 
 // Saves bytes under a name that is not too long.
 fn saved<R: Files>(rt: &R, path: &[u8], length: usize, bytes: &[u8]) -> io::Result<()>
-    requires { length ≤ 4096 }
+    requires { length ≤ path_max }
 {
     let mut name = [0u8; PATH_MAX];
     let file = created(rt, path, length, &mut name)?;

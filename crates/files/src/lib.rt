@@ -1,6 +1,6 @@
-// Files of the console and the referee: read whole, opened as puzzles and records, and a file that takes another's
-// place only once it is written. No contract can say what a file holds; each function says on standard output what went
-// wrong.
+// Files of the console and the referee, and the words of their command line. A file is read whole and opened as a
+// puzzle or a record, and one takes another's place only once it is written. No contract can say what a file holds;
+// each function says on standard output what went wrong.
 #![tactic(auto)]
 
 use board::Board;

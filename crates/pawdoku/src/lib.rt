@@ -1,5 +1,5 @@
-// The library for hosts: every call of the board under the name that it has in include/pawdoku.h. Crate pawdoku_c exports
-// them to C. A board goes in and comes back by value; memory is lent.
+// The library for hosts: every call of the board under the name that it has in include/pawdoku.h. Crate pawdoku_c
+// exports them to C. A board goes in and comes back by value; memory is lent.
 #![tactic(auto)]
 
 use puzzle::Refusal;

@@ -1,5 +1,5 @@
 // What C links: every call of the board, exported under the names of include/pawdoku.h. A board goes in and comes back
-// by value; lent memory is a pointer and a length. Each function is that of crate pawdoku, and promises what it promises.
+// by value; lent memory is a pointer and a length. Each function is that of crate pawdoku, and promises the same.
 #![tactic(auto)]
 
 mod asked;

@@ -1,4 +1,4 @@
--- `reopen::take_back_all` takes back as many moves as it was asked for: the number that is left falls by one at each call.
+-- `reopen::take_back_all` takes back as many moves as it is asked for: the number left falls by one at each call.
 -- Assumes nothing.
 use Rattle.reopen.proofs.+take_back_all.Given as goal
 
