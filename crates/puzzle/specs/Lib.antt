@@ -1,4 +1,5 @@
 pub mod Refusals
+pub mod Errors
 pub mod Givens
 pub mod Puzzle
 pub mod Vouch

@@ -1,6 +1,6 @@
 -- Answers to a refused call: number, place, inner number; the last two are 0 where the documents say nothing of them.
 -- Assumes nothing.
-use Rattle.std.specs.Prelude.{ℕ, zero, suc, Bool, eqb}
+use Rattle.std.specs.Prelude.{ℕ, zero, suc, Bool, eqb, Result, Ok, Err}
 use Rattle.sudoku.specs.Tests.{pick}
 use Rattle.puzzle.specs.declared.Refusal.{Refusal}
 
@@ -10,6 +10,11 @@ refusal number place inner = record { number = number; place = place; inner = in
 -- nothing is refused
 abbrev pub accepted : Refusal
 accepted = refusal 0 0 0
+
+-- what a test answers, as a refusal: nothing is refused where it is Ok
+abbrev pub told : {T E : Type 0} → (E → Refusal) → Result T E → Refusal
+told f (Ok _) = accepted
+told f (Err e) = f e
 
 unfoldable pub is_accepted : Refusal → Bool
 is_accepted r = eqb r.number 0

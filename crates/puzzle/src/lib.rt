@@ -11,6 +11,7 @@ use sudoku::{CELLS, PEERS_PER_CELL, SIDE, peers, wide};
 use units::{boxes_clear, columns_clear, rows_clear};
 
 pub mod answer;
+pub mod error;
 pub mod given_bytes;
 mod orders;
 pub mod text;
@@ -20,7 +21,7 @@ pub mod vouch;
 // The answer of a call: its number in the documents, 0 where the call is
 // accepted; place and inner are 0 where the documents say nothing of them.
 #[repr(C)]
-#[derive(Clone, Copy)]
+#[derive(Clone, Copy, PartialEq, Eq)]
 pub struct Refusal {
     pub number: u8,
     pub place: usize,
@@ -29,7 +30,7 @@ pub struct Refusal {
 
 // A given: a position and the digit that the setter put there.
 #[repr(C)]
-#[derive(Clone, Copy)]
+#[derive(Clone, Copy, PartialEq, Eq, PartialOrd, Ord)]
 pub struct Given {
     pub row: u8,
     pub column: u8,
@@ -38,7 +39,7 @@ pub struct Given {
 
 // How givens stand in some bytes: three bytes each, one after the other, as
 // opening gets them, or as the items of a record, each after its kind byte.
-#[derive(Clone, Copy)]
+#[derive(Clone, Copy, PartialEq, Eq)]
 pub enum Layout {
     Triples,
     Items,
