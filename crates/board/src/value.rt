@@ -3,9 +3,11 @@ ghost use Rattle.std.specs.Prelude.{◌≡◌, [], ◌≤◌, eqb};
 ghost use Rattle.sudoku.specs.Tests.{pick, both, every, first};
 ghost use Rattle.sudoku.specs.Grid.{in_range};
 ghost use Rattle.note.specs.Note.{is_note};
+ghost use Rattle.board.specs.Errors.{number_told};
 ghost use Rattle.board.specs.Board.{is_board, may_stand, digit_value, note_value, solution_value, lent_tests};
 
 use crate::Board;
+use crate::error::PlayError;
 use journal::{MAX_CHECKS, MAX_MOVES};
 use sudoku::{CELLS, SIDE, in_range};
 
@@ -84,15 +86,25 @@ pub fn is_board(board: Board) -> bool
 }
 
 // 1 and 2, which every call with a board and lent memory asks first; `fits` says that the memory has its length.
-// That no other number comes spares callers a fact.
+pub fn lent(board: Board, fits: bool) -> Result<(), PlayError>
+    ensures { number_told result ≡ first (lent_tests fits board []) }
+{
+    if !fits {
+        return Err(PlayError::WrongLength);
+    }
+    if !is_board(board) {
+        return Err(PlayError::NotABoard);
+    }
+    Ok(())
+}
+
+// The number of `lent`. That no other number comes spares callers a fact.
+// until its callers have moved
 pub fn lent_number(board: Board, fits: bool) -> u8
     ensures { (result ≡ first (lent_tests fits board [])) × (result ≤ 2) }
 {
-    if !fits {
-        return 1;
+    match lent(board, fits) {
+        Ok(()) => 0,
+        Err(e) => e.number(),
     }
-    if !is_board(board) {
-        return 2;
-    }
-    0
 }
