@@ -5,21 +5,22 @@ ghost use Rattle.screen.specs.Picture.{size};
 use crate::{counted, number, say};
 use board::Board;
 use screen::keys::keypad;
-use screen::picture::{SIZE, colours, picture};
+use screen::picture::SIZE;
+use screen::{Cells, Colour};
 
 // The escape that turns a colour on, and all others off.
-fn escape(colour: u8) {
+fn escape(colour: Colour) {
     match colour {
-        1 => say(b"\x1b[0;1m"),
-        2 => say(b"\x1b[0;36m"),
-        3 => say(b"\x1b[0;1;31m"),
-        4 => say(b"\x1b[0;32m"),
-        _ => say(b"\x1b[0m"),
+        Colour::Given => say(b"\x1b[0;1m"),
+        Colour::Player => say(b"\x1b[0;36m"),
+        Colour::Clash => say(b"\x1b[0;1;31m"),
+        Colour::Marks => say(b"\x1b[0;32m"),
+        Colour::Plain => say(b"\x1b[0m"),
     }
 }
 
 // Where the colour changes after `start`. A blank shows none, so it changes none.
-fn run_end(signs: &[u8; SIZE], colours: &[u8; SIZE], start: usize) -> usize
+fn run_end(signs: &[u8; SIZE], colours: &[Colour; SIZE], start: usize) -> usize
     requires { start < size }
     ensures { (start < result) × (result ≤ size) }
 {
@@ -36,7 +37,7 @@ fn run_end(signs: &[u8; SIZE], colours: &[u8; SIZE], start: usize) -> usize
 }
 
 // The characters from `start` on that have one colour; answers where they end.
-fn paint_run(signs: &[u8; SIZE], colours: &[u8; SIZE], start: usize) -> usize
+fn paint_run(signs: &[u8; SIZE], colours: &[Colour; SIZE], start: usize) -> usize
     requires { start < size }
     ensures { (start < result) × (result ≤ size) }
 {
@@ -48,12 +49,12 @@ fn paint_run(signs: &[u8; SIZE], colours: &[u8; SIZE], start: usize) -> usize
 }
 
 // A drawn board in its colours.
-fn paint(signs: &[u8; SIZE], colours: &[u8; SIZE]) {
+fn paint(signs: &[u8; SIZE], colours: &[Colour; SIZE]) {
     let mut n: usize = 0;
     while n < SIZE {
         n = paint_run(signs, colours, n);
     }
-    escape(0);
+    escape(Colour::Plain);
 }
 
 // The drawn board of some digits, givens and notes.
@@ -63,9 +64,10 @@ pub fn position<'a>(
     notes: &'a [u16; 81],
     coloured: bool,
 ) {
-    let signs = picture(digits, given, notes);
+    let cells = Cells { digits, given };
+    let signs = cells.picture(notes);
     if coloured {
-        let shades = colours(digits, given);
+        let shades = cells.colours();
         paint(&signs, &shades);
         return;
     }

@@ -10,6 +10,8 @@ use Rattle.puzzle.specs.Puzzle.{holds_digit, conflicts}
 use Rattle.puzzle.specs.Givens.{is_given}
 use Rattle.screen.specs.declared.Spot.{Spot}
 use Rattle.screen.specs.declared.Spot.TheVariants.{Frame, Inside}
+use Rattle.screen.specs.declared.Colour.{Colour}
+use Rattle.screen.specs.declared.Colour.TheVariants.{Plain, Given, Player, Clash, Marks}
 
 abbrev pub width : ℕ
 width = 61
@@ -116,20 +118,20 @@ sign_of digits given notes n = sign_at digits given notes (placed (n / width) (n
 unfoldable pub picture_of : List ℕ → List ℕ → List ℕ → List ℕ
 picture_of digits given notes = listed (sign_of digits given notes) size 0
 
--- colours: 0 none, 1 a given, 2 a player's digit, 3 a cell that conflicts, 4 marks
-unfoldable pub cell_colour : List ℕ → List ℕ → ℕ → ℕ
+-- colours: of the frame none, of a cell that of a given, of a player's digit, of one that conflicts, or of marks
+unfoldable pub cell_colour : List ℕ → List ℕ → ℕ → Colour
 cell_colour digits given cell =
     pick (holds_digit digits cell)
-    (pick (conflicts digits cell) 3 (pick (is_given given cell) 1 2))
-    4
+    (pick (conflicts digits cell) Clash (pick (is_given given cell) Given Player))
+    Marks
 
-unfoldable pub colour_at : List ℕ → List ℕ → Spot → ℕ
-colour_at digits given (Frame sign) = 0
+unfoldable pub colour_at : List ℕ → List ℕ → Spot → Colour
+colour_at digits given (Frame sign) = Plain
 colour_at digits given (Inside cell spot) = cell_colour digits given cell
 
-unfoldable pub colour_of : List ℕ → List ℕ → ℕ → ℕ
+unfoldable pub colour_of : List ℕ → List ℕ → ℕ → Colour
 colour_of digits given n = colour_at digits given (placed (n / width) (n % width))
 
 -- the colour of each character of the drawn board
-unfoldable pub colours_of : List ℕ → List ℕ → List ℕ
+unfoldable pub colours_of : List ℕ → List ℕ → List Colour
 colours_of digits given = listed (colour_of digits given) size 0

@@ -12,3 +12,21 @@ pub enum Spot {
     Frame(u8),
     Inside { cell: usize, spot: u8 },
 }
+
+// What a character of the drawn board is coloured for: nothing, a given, a player's digit, a cell that conflicts, or
+// a cell without a digit.
+#[derive(Clone, Copy, PartialEq, Eq)]
+pub enum Colour {
+    Plain,
+    Given,
+    Player,
+    Clash,
+    Marks,
+}
+
+// The cells that are drawn: their digits, and which of them are givens.
+#[derive(Clone, Copy)]
+pub struct Cells<'a> {
+    pub digits: &'a [u8; 81],
+    pub given: &'a [u8; 81],
+}

@@ -1,10 +1,12 @@
 // The drawn board, character by character.
-ghost use Rattle.std.specs.Prelude.{◌≡◌, ◌<◌, ◌≤◌};
-ghost use Rattle.screen.specs.Picture.{size, figure as figure_of, across as across_at, upright as upright_at, column_label};
-ghost use Rattle.screen.specs.Picture.{row_label, spot_of, framed as framed_at, placed as placed_at, is_corner, bracket_at};
-ghost use Rattle.screen.specs.Picture.{digit_sign, mark_sign, cell_sign, sign_of, picture_of, cell_colour, colour_of, colours_of};
+#![tactic(auto, using(std::proofs::lemmas::Bool::Decides::nat_tests), unfolding(sudoku::specs::Tests::pick, sudoku::specs::Tests::both, sudoku::specs::Tests::either, crate::specs::Picture::figure, crate::specs::Picture::across, crate::specs::Picture::upright, crate::specs::Picture::column_label, crate::specs::Picture::row_label, crate::specs::Picture::spot_of, crate::specs::Picture::framed, crate::specs::Picture::placed, crate::specs::Picture::is_corner, crate::specs::Picture::bracket_at, crate::specs::Picture::digit_sign, crate::specs::Picture::mark_sign, crate::specs::Picture::cell_sign, crate::specs::Picture::sign_at, crate::specs::Picture::cell_colour, crate::specs::Picture::colour_at))]
 
-use crate::Spot;
+ghost use Rattle.std.specs.Prelude.{◌≡◌, ◌<◌, ◌≤◌, ◌/◌, ◌%◌};
+ghost use Rattle.screen.specs.Picture.{size, width, figure as figure_of, across as across_at, upright as upright_at, column_label};
+ghost use Rattle.screen.specs.Picture.{row_label, spot_of, framed as framed_at, placed as placed_at, is_corner, bracket_at};
+ghost use Rattle.screen.specs.Picture.{digit_sign, mark_sign, cell_sign, sign_at, picture_of, cell_colour, colour_at, colours_of};
+
+use crate::{Cells, Colour, Spot};
 use journal::notes::note_at;
 use journal::slots::is_given;
 use puzzle::{conflicts, digit_at, holds_digit};
@@ -19,150 +21,120 @@ pub const SIZE: usize = 2379;
 pub fn figure(n: u8) -> u8
     ensures { result ≡ figure_of n }
 {
-    if n <= 9 {
-        return 48 + n;
-    }
-    b'?'
+    if n <= 9 { b'0' + n } else { b'?' }
 }
 
 // A line across, at line y of the frame.
-fn across(y: usize, x: usize) -> u8
+fn across(y: u8, x: u8) -> u8
     ensures { result ≡ across_at y x }
 {
     if x % 18 == 0 {
-        return b'#';
+        b'#'
+    } else if x % 6 == 0 {
+        b'+'
+    } else if y % 12 == 0 {
+        b'='
+    } else {
+        b'-'
     }
-    if x % 6 == 0 {
-        return b'+';
-    }
-    if y % 12 == 0 {
-        return b'=';
-    }
-    b'-'
 }
 
 // A line upright, at column x of the frame.
-fn upright(x: usize) -> u8
+fn upright(x: u8) -> u8
     ensures { result ≡ upright_at x }
 {
-    if x % 18 == 0 {
-        return b'#';
-    }
-    b'|'
+    if x % 18 == 0 { b'#' } else { b'|' }
 }
 
 // The number of a column, over the middle of its cells.
-fn column_label(x: usize) -> u8
-    requires { x < 61 }
+fn column_label(x: u8) -> u8
     ensures { result ≡ column_label x }
 {
-    if x == 0 {
-        return b' ';
+    if x != 0 && x % 6 == 0 {
+        figure(x / 6)
+    } else {
+        b' '
     }
-    if x % 6 == 0 {
-        return figure((x / 6) as u8);
-    }
-    b' '
 }
 
 // The number of a row, left and right of the middle of its cells.
-fn row_label(y: usize, x: usize) -> u8
-    requires { y < 39 }
+fn row_label(y: u8, x: u8) -> u8
     ensures { result ≡ row_label y x }
 {
-    if y % 4 != 2 {
-        return b' ';
+    if y % 4 == 2 && (x == 1 || x == 59) {
+        figure(y / 4 + 1)
+    } else {
+        b' '
     }
-    if x == 1 {
-        return figure((y / 4 + 1) as u8);
-    }
-    if x == 59 {
-        return figure((y / 4 + 1) as u8);
-    }
-    b' '
 }
 
 // The spot of a cell at its line i, from 1 to 3, and its column j, from 1 to 5.
-fn spot_of(i: usize, j: usize) -> u8
+fn spot_of(i: u8, j: u8) -> u8
     requires { (1 ≤ i) × (i < 4) }
     ensures { result ≡ spot_of i j }
 {
-    if j < 2 {
-        return 0;
+    if 2 <= j && j <= 4 {
+        3 * (i - 1) + (j - 1)
+    } else {
+        0
     }
-    if j > 4 {
-        return 0;
-    }
-    (3 * (i - 1) + (j - 1)) as u8
 }
 
 // What line y of the frame shows at column x of it.
-fn framed(y: usize, x: usize) -> Spot
-    requires { (y < 39) × (x < 61) }
+fn framed(y: u8, x: u8) -> Spot
     ensures { result ≡ framed_at y x }
 {
     if y % 4 == 0 {
-        return Spot::Frame(across(y, x));
-    }
-    if x % 6 == 0 {
-        return Spot::Frame(upright(x));
-    }
-    Spot::Inside {
-        cell: cell_of((y / 4 + 1) as u8, (x / 6 + 1) as u8),
-        spot: spot_of(y % 4, x % 6),
+        Spot::Frame(across(y, x))
+    } else if x % 6 == 0 {
+        Spot::Frame(upright(x))
+    } else {
+        Spot::Inside {
+            cell: cell_of(y / 4 + 1, x / 6 + 1),
+            spot: spot_of(y % 4, x % 6),
+        }
     }
 }
 
 // What line y shows at column x.
-fn placed(y: usize, x: usize) -> Spot
-    requires { (y < 39) × (x < 61) }
+fn placed(y: u8, x: u8) -> Spot
     ensures { result ≡ placed_at y x }
 {
     if x == 60 {
-        return Spot::Frame(b'\n');
+        Spot::Frame(b'\n')
+    } else if y == 0 || y == 38 {
+        Spot::Frame(column_label(x))
+    } else if x < 3 || x > 57 {
+        Spot::Frame(row_label(y - 1, x))
+    } else {
+        framed(y - 1, x - 3)
     }
-    if y == 0 {
-        return Spot::Frame(column_label(x));
-    }
-    if y == 38 {
-        return Spot::Frame(column_label(x));
-    }
-    if x < 3 {
-        return Spot::Frame(row_label(y - 1, x));
-    }
-    if x > 57 {
-        return Spot::Frame(row_label(y - 1, x));
-    }
-    framed(y - 1, x - 3)
+}
+
+// What character n of the drawn board shows.
+fn spot_at(n: usize) -> Spot
+    requires { n < size }
+    ensures { result ≡ placed_at (n / width) (n % width) }
+{
+    placed((n / WIDTH) as u8, (n % WIDTH) as u8)
 }
 
 // The four spots at the corners of a cell.
 fn is_corner(spot: u8) -> bool
     ensures { result ≡ is_corner spot }
 {
-    if spot == 1 {
-        return true;
-    }
-    if spot == 3 {
-        return true;
-    }
-    if spot == 7 {
-        return true;
-    }
-    spot == 9
+    matches!(spot, 1 | 3 | 7 | 9)
 }
 
 // The brackets of a given.
 fn bracket(spot: u8) -> u8
     ensures { result ≡ bracket_at spot }
 {
-    if spot == 4 {
-        return b'[';
+    match spot {
+        4 => b'[',
+        6 => b']',
+        _ => b' ',
     }
-    if spot == 6 {
-        return b']';
-    }
-    b' '
 }
 
 // A spot of a cell that holds a digit.
@@ -170,18 +142,14 @@ fn digit_sign(digit: u8, given: bool, clash: bool, spot: u8) -> u8
     ensures { result ≡ digit_sign digit given clash spot }
 {
     if spot == 5 {
-        return figure(digit);
+        figure(digit)
+    } else if is_corner(spot) {
+        if clash { b'!' } else { b' ' }
+    } else if given {
+        bracket(spot)
+    } else {
+        b' '
     }
-    if is_corner(spot) {
-        if clash {
-            return b'!';
-        }
-        return b' ';
-    }
-    if given {
-        return bracket(spot);
-    }
-    b' '
 }
 
 // A spot of a cell that holds no digit.
@@ -189,100 +157,77 @@ fn mark_sign(note: u16, spot: u8) -> u8
     ensures { result ≡ mark_sign note spot }
 {
     if note::contains(note, spot) {
-        return figure(spot);
-    }
-    if spot == 0 {
-        return b' ';
-    }
-    if note::is_empty(note) {
-        return b' ';
-    }
-    b'.'
-}
-
-// A spot of a cell. A note under a digit is kept and not shown.
-fn cell_sign<'a>(
-    digits: &'a [u8; 81],
-    given: &'a [u8; 81],
-    notes: &'a [u16; 81],
-    cell: usize,
-    spot: u8,
-) -> u8
-    ensures { result ≡ cell_sign digits.now given.now notes.now cell spot }
-{
-    if holds_digit(digits, cell) {
-        return digit_sign(
-            digit_at(digits, cell),
-            is_given(given, cell),
-            conflicts(digits, cell),
-            spot,
-        );
-    }
-    mark_sign(note_at(notes, cell), spot)
-}
-
-// Character n of the drawn board.
-fn sign<'a>(digits: &'a [u8; 81], given: &'a [u8; 81], notes: &'a [u16; 81], n: usize) -> u8
-    requires { n < size }
-    ensures { result ≡ sign_of digits.now given.now notes.now n }
-{
-    let place = placed(n / WIDTH, n % WIDTH);
-    match place {
-        Spot::Frame(frame) => frame,
-        Spot::Inside { cell, spot } => cell_sign(digits, given, notes, cell, spot),
+        figure(spot)
+    } else if spot == 0 || note::is_empty(note) {
+        b' '
+    } else {
+        b'.'
     }
 }
 
-// The drawn board.
-pub fn picture<'a>(digits: &'a [u8; 81], given: &'a [u8; 81], notes: &'a [u16; 81]) -> [u8; SIZE]
-    ensures { result ≡ picture_of digits.now given.now notes.now }
-{
-    let mut out = [0u8; SIZE];
-    let mut n: usize = 0;
-    while n < SIZE {
-        out[n] = sign(digits, given, notes, n);
-        n += 1;
+impl Cells<'_> {
+    // A spot of a cell. A note under a digit is kept and not shown.
+    fn cell_sign(&self, notes: &[u16; 81], cell: usize, spot: u8) -> u8
+        ensures { result ≡ cell_sign self.now.digits.now self.now.given.now notes.now cell spot }
+    {
+        if holds_digit(self.digits, cell) {
+            digit_sign(
+                digit_at(self.digits, cell),
+                is_given(self.given, cell),
+                conflicts(self.digits, cell),
+                spot,
+            )
+        } else {
+            mark_sign(note_at(notes, cell), spot)
+        }
     }
-    out
-}
 
-// The colour of a cell.
-fn cell_colour<'a>(digits: &'a [u8; 81], given: &'a [u8; 81], cell: usize) -> u8
-    ensures { result ≡ cell_colour digits.now given.now cell }
-{
-    if !holds_digit(digits, cell) {
-        return 4;
+    // The character of a place of the drawn board.
+    fn sign(&self, notes: &[u16; 81], spot: Spot) -> u8
+        ensures { result ≡ sign_at self.now.digits.now self.now.given.now notes.now spot }
+    {
+        match spot {
+            Spot::Frame(frame) => frame,
+            Spot::Inside { cell, spot } => self.cell_sign(notes, cell, spot),
+        }
     }
-    if conflicts(digits, cell) {
-        return 3;
-    }
-    if is_given(given, cell) {
-        return 1;
-    }
-    2
-}
 
-// The colour of character n of the drawn board.
-fn colour<'a>(digits: &'a [u8; 81], given: &'a [u8; 81], n: usize) -> u8
-    requires { n < size }
-    ensures { result ≡ colour_of digits.now given.now n }
-{
-    let place = placed(n / WIDTH, n % WIDTH);
-    match place {
-        Spot::Frame(_) => 0,
-        Spot::Inside { cell, spot: _ } => cell_colour(digits, given, cell),
+    // The drawn board.
+    pub fn picture(&self, notes: &[u16; 81]) -> [u8; SIZE]
+        ensures { result ≡ picture_of self.now.digits.now self.now.given.now notes.now }
+    {
+        std::array::from_fn(|n| self.sign(notes, spot_at(n)))
     }
-}
 
-// The colour of each character of the drawn board.
-pub fn colours<'a>(digits: &'a [u8; 81], given: &'a [u8; 81]) -> [u8; SIZE]
-    ensures { result ≡ colours_of digits.now given.now }
-{
-    let mut out = [0u8; SIZE];
-    let mut n: usize = 0;
-    while n < SIZE {
-        out[n] = colour(digits, given, n);
-        n += 1;
+    // The colour of a cell.
+    fn cell_colour(&self, cell: usize) -> Colour
+        ensures { result ≡ cell_colour self.now.digits.now self.now.given.now cell }
+    {
+        if !holds_digit(self.digits, cell) {
+            Colour::Marks
+        } else if conflicts(self.digits, cell) {
+            Colour::Clash
+        } else if is_given(self.given, cell) {
+            Colour::Given
+        } else {
+            Colour::Player
+        }
     }
-    out
+
+    // The colour of a place of the drawn board.
+    fn colour(&self, spot: Spot) -> Colour
+        ensures { result ≡ colour_at self.now.digits.now self.now.given.now spot }
+    {
+        match spot {
+            Spot::Frame(_) => Colour::Plain,
+            Spot::Inside { cell, .. } => self.cell_colour(cell),
+        }
+    }
+
+    // The colour of each character of the drawn board.
+    pub fn colours(&self) -> [Colour; SIZE]
+        ensures { result ≡ colours_of self.now.digits.now self.now.given.now }
+    {
+        std::array::from_fn(|n| self.colour(spot_at(n)))
+    }
 }

@@ -4,3 +4,4 @@ pub mod PeerTable
 pub mod Counting
 pub mod Each
 pub mod Listed
+pub mod Made

