@@ -1,4 +1,5 @@
 // The keypad, as one line: each key with its digits left.
+// What the definitions say is found by opening those that are named here.
 #![tactic(auto, using(std::proofs::lemmas::Bool::Decides::nat_tests), unfolding(sudoku::specs::Tests::pick, crate::specs::Keys::key_part, crate::specs::Keys::key_sign, crate::specs::Keys::heading))]
 
 ghost use Rattle.std.specs.Prelude.{◌≡◌, ◌<◌};

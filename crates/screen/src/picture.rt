@@ -1,4 +1,5 @@
 // The drawn board, character by character.
+// What the definitions say is found by opening those that are named here.
 #![tactic(auto, using(std::proofs::lemmas::Bool::Decides::nat_tests), unfolding(sudoku::specs::Tests::pick, sudoku::specs::Tests::both, sudoku::specs::Tests::either, crate::specs::Picture::figure, crate::specs::Picture::across, crate::specs::Picture::upright, crate::specs::Picture::column_label, crate::specs::Picture::row_label, crate::specs::Picture::spot_of, crate::specs::Picture::framed, crate::specs::Picture::placed, crate::specs::Picture::is_corner, crate::specs::Picture::bracket_at, crate::specs::Picture::digit_sign, crate::specs::Picture::mark_sign, crate::specs::Picture::cell_sign, crate::specs::Picture::sign_at, crate::specs::Picture::cell_colour, crate::specs::Picture::colour_at))]
 
 ghost use Rattle.std.specs.Prelude.{◌≡◌, ◌<◌, ◌≤◌, ◌/◌, ◌%◌};
