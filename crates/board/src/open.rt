@@ -22,14 +22,11 @@ use sudoku::CELLS;
 pub fn clear(memory: &mut [u8])
     ensures { memory.new ≡ replicate (length memory.old) 0 }
 {
-    let mut i: usize = 0;
-    while i < memory.len() {
-        memory[i] = 0;
-        i += 1;
-    }
+    memory.fill(0);
 }
 
 // The board that a refused opening hands back: every field 0, unsolved.
+#[tactic(auto, unfolding(crate::specs::Board::zero_board))]
 pub fn zero_board() -> Board
     ensures { result ≡ zero_board }
 {
@@ -46,17 +43,18 @@ pub fn zero_board() -> Board
 }
 
 // The fresh board of givens and their solution: no notes, no moves, no checks.
+#[tactic(auto, unfolding(crate::specs::Board::fresh, crate::specs::Board::board_of, journal::specs::State::opening))]
 pub fn fresh(bytes: &[u8], layout: Layout, count: usize, rows: [[u8; 9]; 9]) -> Board
     ensures { result ≡ fresh_of (givens_in layout bytes.now count) (flat_of rows) }
 {
     let digits = put_givens(bytes, layout, count);
     let given = mark_givens(bytes, layout, count);
-    let right = flat(rows);
+    let solution = flat(rows);
     Board {
-        digits: digits,
-        given: given,
+        digits,
+        given,
         notes: [0u16; 81],
-        solution: right,
+        solution,
         solved: 0,
         made: 0,
         standing: 0,
@@ -65,16 +63,11 @@ pub fn fresh(bytes: &[u8], layout: Layout, count: usize, rows: [[u8; 9]; 9]) -> 
 }
 
 // Number 1 does not speak of these lengths of solution, journal and check memory.
+#[tactic(auto, unfolding(sudoku::specs::Tests::both))]
 pub fn lent_lengths(solution: usize, journal: usize, checks: usize) -> bool
     ensures { result ≡ both (eqb journal journal_bytes) (both (eqb checks check_memory) (eqb solution 81)) }
 {
-    if journal != JOURNAL_BYTES {
-        return false;
-    }
-    if checks != CHECK_MEMORY {
-        return false;
-    }
-    solution == CELLS
+    journal == JOURNAL_BYTES && checks == CHECK_MEMORY && solution == CELLS
 }
 
 // The answer to number 1.

@@ -12,21 +12,18 @@ use journal::{MAX_CHECKS, MAX_MOVES};
 use sudoku::{CELLS, SIDE, in_range};
 
 // The greatest flag that may stand beside a digit: a cell without one is no given.
+#[tactic(auto, unfolding(sudoku::specs::Tests::pick))]
 fn greatest_flag(digit: u8) -> u8
     ensures { result ≡ pick (eqb digit 0) 0 1 }
 {
-    if digit == 0 {
-        return 0;
-    }
-    1
+    u8::from(digit != 0)
 }
 
-// What was found so far, and a cell's digit and flag and the solution's digit.
-fn cell_step(ok: bool, digit: u8, given: u8, right: u8) -> bool
-    ensures { result ≡ both ok (both (may_stand digit given) (in_range right)) }
+// A cell's digit and flag, and the solution's digit. Each test is made, whatever the others say.
+fn cell_value(digit: u8, given: u8, right: u8) -> bool
+    ensures { result ≡ both (may_stand digit given) (in_range right) }
 {
-    let flag = greatest_flag(digit);
-    ok & (digit <= SIDE) & (given <= flag) & in_range(right)
+    (digit <= SIDE) & (given <= greatest_flag(digit)) & in_range(right)
 }
 
 // The digits, the flags and the solution are asked in one loop: in two it takes a nanosecond more in every call.
@@ -34,58 +31,37 @@ fn cell_values<'a>(digits: &'a [u8; 81], given: &'a [u8; 81], solution: &'a [u8;
     ensures { result ≡ both (every (digit_value digits.now given.now) 81 1) (every (solution_value solution.now) 81 1) }
 {
     let mut ok = true;
-    let mut i: usize = 0;
-    while i < CELLS {
-        ok = cell_step(ok, digits[i], given[i], solution[i]);
-        i += 1;
+    for i in 0..CELLS {
+        ok &= cell_value(digits[i], given[i], solution[i]);
     }
     ok
-}
-
-fn note_step(ok: bool, note: u16) -> bool
-    ensures { result ≡ both ok (is_note note) }
-{
-    if note::is_note(note) {
-        return ok;
-    }
-    false
 }
 
 fn note_values(notes: &[u16; 81]) -> bool
     ensures { result ≡ every (note_value notes.now) 81 1 }
 {
     let mut ok = true;
-    let mut i: usize = 0;
-    while i < CELLS {
-        ok = note_step(ok, notes[i]);
-        i += 1;
+    for note in notes {
+        ok &= note::is_note(*note);
     }
     ok
 }
 
 // Whether number 2 does not speak of the board value.
+#[tactic(auto, unfolding(crate::specs::Board::is_board, sudoku::specs::Tests::both))]
 pub fn is_board(board: Board) -> bool
     ensures { result ≡ is_board board }
 {
-    if board.made > MAX_MOVES {
-        return false;
-    }
-    if board.standing > board.made {
-        return false;
-    }
-    if board.checks > MAX_CHECKS {
-        return false;
-    }
-    if board.solved > 1 {
-        return false;
-    }
-    if !note_values(&board.notes) {
-        return false;
-    }
-    cell_values(&board.digits, &board.given, &board.solution)
+    board.made <= MAX_MOVES
+        && board.standing <= board.made
+        && board.checks <= MAX_CHECKS
+        && board.solved <= 1
+        && note_values(&board.notes)
+        && cell_values(&board.digits, &board.given, &board.solution)
 }
 
 // 1 and 2, which every call with a board and lent memory asks first; `fits` says that the memory has its length.
+#[tactic(auto, unfolding(crate::specs::Board::lent_tests, sudoku::specs::Tests::first, sudoku::specs::Tests::pick))]
 pub fn lent(board: Board, fits: bool) -> Result<(), PlayError>
     ensures { number_told result ≡ first (lent_tests fits board []) }
 {

@@ -4,11 +4,10 @@
 use Prim.Native.Nat.{ℕ, ◌+◌}
 use mathlib.Core.Path.{◌≡◌, refl, sym, ap, ◌∙◌}
 use mathlib.Core.List.{List}
-use native.Mathlib.Omega.{arith}
 use lib.ListN.{get_or}
 use Rattle.sudoku.specs.Tests.{both}
 use Rattle.sudoku.specs.Grid.{in_range}
-use Rattle.sudoku.proofs.Walks.{every_both}
+use Rattle.sudoku.proofs.Walks.{and_both, every_both}
 use Rattle.board.specs.Board.{may_stand, digit_value, solution_value}
 use Rattle.board.proofs.Values.{at_next, turn, at_end}
 use Rattle.board.proofs.value.cell_values.Invariants.{cell_value}
@@ -22,20 +21,18 @@ here digits given solution i = rw (at_next digits i, at_next given i, at_next so
 
 pub loop-i-init : goal.loop-i-init
 unfolding both
-loop-i-init c = (omega arith, refl)
+loop-i-init c = refl
 
 pub loop-i-preserved : goal.loop-i-preserved
 loop-i-preserved c =
     let a = c.args in
-    let i = c.loop-i.i in (
-      omega arith,
-      turn (cell_value a.digits.now a.given.now a.solution.now) _ _ _ i c.loop-i-test.true
-          (c.cell_step-ok.ensures ∙ ap (both c.loop-i.ok) (sym (here a.digits.now a.given.now a.solution.now i)))
-          c.loop-i.invariant.1,
-    )
+    let i = c.loop-i.i in
+    turn (cell_value a.digits.now a.given.now a.solution.now) _ _ _ i c.loop-i-test.true
+    (rw (c.cell_value-ok.ensures, and_both) (ap (both c.loop-i.ok) (sym (here a.digits.now a.given.now a.solution.now i))))
+    c.loop-i.invariant
 
 pub returns : goal.returns
 returns c =
     let a = c.args in
-    at_end (cell_value a.digits.now a.given.now a.solution.now) _ _ c.loop-i.i c.loop-i-test.false c.loop-i.invariant.1
+    at_end (cell_value a.digits.now a.given.now a.solution.now) _ _ c.loop-i.i c.loop-i-test.false c.loop-i.invariant
     ∙ every_both (digit_value a.digits.now a.given.now) (solution_value a.solution.now) 81 1

@@ -1,7 +1,7 @@
 -- `board::value::cell_values` meets its contract. The invariant: what was found so far, and what is left
 -- of the walk, make the whole walk; and the one walk, with both tests of each cell, is the two.
 -- Assumes nothing.
-use Prim.Native.Nat.{ℕ, ◌≤◌, ◌+◌, ◌-◌}
+use Prim.Native.Nat.{ℕ, ◌+◌, ◌-◌}
 use mathlib.Core.Path.{◌≡◌}
 use mathlib.Core.Bool.{Bool}
 use mathlib.Core.List.{List}
@@ -15,7 +15,4 @@ cell_value digits given solution cell = both (digit_value digits given cell) (so
 
 abbrev pub invariant-loop-i : goal.invariant-loop-i
 invariant-loop-i l =
-    (l.i ≤ 81) × (every (cell_value l.digits l.given l.solution) 81 1 ≡ both l.ok (every (cell_value l.digits l.given l.solution) (82 - (l.i + 1)) (l.i + 1)))
-
-abbrev pub decreases-loop-i : goal.decreases-loop-i
-decreases-loop-i l = 81 - l.i
+    every (cell_value l.digits l.given l.solution) 81 1 ≡ both l.ok (every (cell_value l.digits l.given l.solution) (82 - (l.i + 1)) (l.i + 1))

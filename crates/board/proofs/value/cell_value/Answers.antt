@@ -1,17 +1,17 @@
--- `board::value::cell_step` meets its contract: a flag that is at most the greatest which
+-- `board::value::cell_value` meets its contract: a flag that is at most the greatest which
 -- may stand beside the digit is one of the two, and is not set where no digit stands.
 -- Assumes nothing.
 use Prim.Native.Nat.{ℕ, ◌<◌}
 use mathlib.Core.Path.{◌≡◌, refl, sym, ap, ◌∙◌}
-use mathlib.Core.Bool.{Bool, true, false, not, ◌&&◌}
+use mathlib.Core.Bool.{Bool, true, false, not}
 use native.Mathlib.Omega.{arith}
 use lib.Dec.{eqb, leb}
 use borrow.Author.Tests.{eqb-true, eqb-false, le-leb, lt-leb}
 use Rattle.sudoku.specs.Tests.{pick, both}
-use Rattle.sudoku.proofs.Walks.{by_test, both_true, both_second, both_false_left, both_false_right, both_assoc, and_both}
+use Rattle.sudoku.proofs.Walks.{by_test, both_true, both_second, both_false_left, both_false_right, and_both}
 use Rattle.puzzle.specs.Givens.{is_on}
 use Rattle.board.specs.Board.{may_stand}
-use Rattle.board.proofs.value.cell_step.Goals as goal
+use Rattle.board.proofs.value.cell_value.Goals as goal
 
 flag_by : (none : Bool) (flag : ℕ) → leb flag (pick none 0 1) ≡ both (leb flag 1) (not (both (is_on flag) none))
 unfolding pick
@@ -23,10 +23,6 @@ flag_by true flag =
     lt-leb flag 0 l ∙ sym (both_false_right _ _ (ap not (both_true _ _ (ap not f) refl))))
 flag_by false flag = sym (both_second _ _ (ap not (both_false_right (is_on flag) false refl)))
 
-all_four : (a b c d : Bool) → (((a && b) && c) && d) ≡ both a (both (both b c) d)
-all_four a b c d =
-    rw (and_both a b, and_both (both a b) c, and_both (both (both a b) c) d, both_assoc a b c) (both_assoc a (both b c) d)
-
 pub returns : goal.returns
 unfolding may_stand
-returns c = rw (c.greatest_flag-flag.ensures, c.in_range.ensures, flag_by (eqb c.args.digit 0) c.args.given) (all_four _ _ _ _)
+returns c = rw (c.greatest_flag.ensures, c.in_range.ensures, flag_by (eqb c.args.digit 0) c.args.given, and_both, and_both) refl
