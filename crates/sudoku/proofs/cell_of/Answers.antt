@@ -15,6 +15,7 @@ returns-then-on_grid c =
     let a = c.args in
     omega (arith, cell_on a.row a.column (sym c.on_grid.ensures ∙ c.if-on_grid.true), cell_le a.row a.column)
 
-pub returns : goal.returns
-returns c =
-    (sym (cell_off c.args.row c.args.column (sym c.on_grid.ensures ∙ c.if-on_grid.false)), omega arith)
+pub returns-else-on_grid : goal.returns-else-on_grid
+returns-else-on_grid c =
+    let a = c.args in
+    omega (arith, cell_off a.row a.column (sym c.on_grid.ensures ∙ c.if-on_grid.false))
