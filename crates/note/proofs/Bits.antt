@@ -1,10 +1,10 @@
 -- The bits of a number, by arithmetic: bit d of n is `n / 2 ^ d % 2`. What adding 2 ^ d does where bit d is 0 and what
--- subtracting it does where bit d is 1, at any place and any width; and two numbers with the same bits are equal.
+-- subtracting it does where bit d is 1, at any place and any width.
 -- Assumes nothing.
 use mathlib.Core.Path.{◌≡◌, sym, ap, ◌∙◌}
 use mathlib.Core.Logic.{◌≢◌}
-use Prim.Native.Nat.{ℕ, zero, suc, ◌+◌, ◌-◌, ◌*◌, ◌/◌, ◌%◌, ◌^◌, ◌≤◌, ◌<◌}
-use native.Mathlib.Nat.{mul_assoc, mul_comm, div-one, pow-suc, pow-succ', add-div_right, add-mul-div_left, div-div-eq-div-mul, div-lt_iff_lt-mul, div-eq_of_lt, add-sub_of_le, sub-add_cancel}
+use Prim.Native.Nat.{ℕ, suc, ◌+◌, ◌-◌, ◌*◌, ◌/◌, ◌%◌, ◌^◌, ◌≤◌, ◌<◌}
+use native.Mathlib.Nat.{mul_assoc, mul_comm, pow-suc, add-div_right, add-mul-div_left, div-div-eq-div-mul, div-lt_iff_lt-mul, div-eq_of_lt, add-sub_of_le, sub-add_cancel}
 use native.Mathlib.Omega.{arith}
 use lib.Dec.{ltb}
 use lib.Pow.{pow_pos, pow-add}
@@ -63,14 +63,3 @@ added_fits w n d l f h = rw (add-sub_of_le l) at (within (w - suc d) (rw (← ad
     within j g =
         let q : n / 2 ^ d < 2 * 2 ^ j = (div-lt_iff_lt-mul (pow_pos d)).1 (rw (above, mul_comm (2 ^ d)) at g) in
         rw (above, mul_comm (2 ^ d)) ((div-lt_iff_lt-mul (pow_pos d)).0 (rw (raised n d) (omega arith)))
-
--- two numbers of w bits with the same bits are equal
-pub same_bits : (w n m : ℕ) → n < 2 ^ w → m < 2 ^ w → ((d : ℕ) → d < w → n / 2 ^ d % 2 ≡ m / 2 ^ d % 2) → n ≡ m
-same_bits zero n m f g h = omega arith
-same_bits (suc w) n m f g h =
-    let low : n % 2 ≡ m % 2 = rw (div-one n, div-one m) at (h 0 (omega arith)) in
-    let high : n / 2 ≡ m / 2 =
-    same_bits w (n / 2) (m / 2) (omega arith) (omega arith)
-    (λ d l. rw (div-div-eq-div-mul n 2, div-div-eq-div-mul m 2, ← pow-succ' 2 d) (h (suc d) (omega arith)))
-    in
-    omega arith

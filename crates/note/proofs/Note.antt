@@ -12,12 +12,13 @@ use lib.Bits.{bit_and, bit_or, and_high, and_zero_r, or_add_and}
 use lib.Dec.{eqb}
 use lib.Pow.{pow_pos}
 use borrow.Author.Tests.{ltb-true, lt-ltb, eq-eqb, ne_eqb, eqb-true, eqb-false}
+use Rattle.std.proofs.lemmas.Nat.Bits.{same_from_bits_below}
 use Rattle.sudoku.specs.Tests.{pick, both, either, bit, count}
 use Rattle.sudoku.proofs.Walks.{by_test, pick_true, pick_false, length_among, count_le, both_left, both_right, both_second, both_false_right, either_first, either_right}
 use Rattle.sudoku.specs.Grid.{in_range}
 use Rattle.sudoku.proofs.Grid.{range_from, range_to, in_range_lem}
 use Rattle.note.specs.Note.{contains, with_mark, without, is_note, power_of, len_of, marks}
-use Rattle.note.proofs.Bits.{power_le, bit_added, bit_removed, bit_added_other, bit_removed_other, added_fits, same_bits}
+use Rattle.note.proofs.Bits.{power_le, bit_added, bit_removed, bit_added_other, bit_removed_other, added_fits}
 
 -- ---- what the tests say in numbers
 
@@ -269,7 +270,7 @@ same_bit x y h =
     (λ e. omega (arith, eqb-false (x % 2) 1 (h ∙ e), eqb-false (y % 2) 1 e))
 
 pub same_marks : (n m : ℕ) → is_note n ≡ true → is_note m ≡ true → ((d : ℕ) → in_range d ≡ true → contains n d ≡ contains m d) → n ≡ m
-same_marks n m hn hm h = same_bits 10 n m (is_note_small n hn) (is_note_small m hm) by
+same_marks n m hn hm h = same_from_bits_below 10 n m (is_note_small n hn) (is_note_small m hm) by
   where
     by : (d : ℕ) → d < 10 → n / 2 ^ d % 2 ≡ m / 2 ^ d % 2
     by zero l = rw (div-one n, div-one m) (is_note_even n hn ∙ sym (is_note_even m hm))

@@ -7,14 +7,14 @@ ghost use Rattle.note.specs.Note.{contains as contains_of, with_mark, without as
 
 use sudoku::in_range;
 
+// The bits of the marks 1 to 9.
+const MARKS: u16 = 0x3fe;
+
 // The value of the mark `digit`, and 0 for what is not a digit from 1 to 9.
 pub fn power(digit: u8) -> u16
     ensures { result ≡ power_of digit }
 {
-    if in_range(digit) {
-        return 1u16 << digit;
-    }
-    0
+    if in_range(digit) { 1 << digit } else { 0 }
 }
 
 // Whether the mark `digit` is written. No note holds a mark that is not a digit from 1 to 9.
@@ -42,12 +42,11 @@ pub fn without(note: u16, digit: u8) -> u16
 pub fn len(note: u16) -> usize
     ensures { result ≡ len_of note }
 {
-    let low = note / 2 % 2 + note / 4 % 2 + note / 8 % 2 + note / 16 % 2;
-    let high = note / 32 % 2 + note / 64 % 2 + note / 128 % 2 + note / 256 % 2;
-    (low + high + note / 512 % 2) as usize
+    (note & MARKS).count_ones() as usize
 }
 
 // Whether no mark is written. Every note starts so.
+#[tactic(auto, unfolding(crate::specs::Note::is_empty))]
 pub fn is_empty(note: u16) -> bool
     ensures { result ≡ is_empty note }
 {
@@ -60,23 +59,19 @@ pub fn digits(note: u16) -> [u8; 9]
 {
     let mut marks = [0u8; 9];
     let mut n: usize = 0;
-    let mut mark: u8 = 1;
-    while mark < 10 {
+    for mark in 1..10 {
         if contains(note, mark) {
             marks[n] = mark;
             n += 1;
         }
-        mark += 1;
     }
     marks
 }
 
 // Whether the note has no bit but those of the marks 1 to 9.
+#[tactic(auto, unfolding(crate::specs::Note::is_note, sudoku::specs::Tests::both))]
 pub fn is_note(note: u16) -> bool
     ensures { result ≡ is_note note }
 {
-    if note % 2 != 0 {
-        return false;
-    }
-    note < 1024
+    note % 2 == 0 && note < 1024
 }

@@ -1,7 +1,7 @@
 -- `note::digits` meets its contract. The loop's invariant: the marks
 -- from `mark` on, stored from place n on, complete the answer.
 -- Assumes nothing.
-use Prim.Native.Nat.{◌≤◌, ◌<◌, ◌-◌}
+use Prim.Native.Nat.{◌<◌, ◌-◌}
 use mathlib.Core.Path.{◌≡◌}
 use lib.Seq.{sets}
 use Rattle.sudoku.specs.Tests.{among}
@@ -10,7 +10,4 @@ use Rattle.note.proofs.digits.Given as goal
 
 abbrev pub invariant-loop-mark : goal.invariant-loop-mark
 invariant-loop-mark l =
-    (1 ≤ l.mark) × (l.mark ≤ 10) × (l.n < l.mark) × (digits_of l.note ≡ sets l.marks l.n (among (contains l.note) (10 - l.mark) l.mark))
-
-abbrev pub decreases-loop-mark : goal.decreases-loop-mark
-decreases-loop-mark l = 10 - l.mark
+    (l.n < l.mark) × (digits_of l.note ≡ sets l.marks l.n (among (contains l.note) (10 - l.mark) l.mark))

@@ -17,5 +17,5 @@ returns-then-in_range c =
     ∙ one-mul _
     ∙ sym (power_digit _ (sym c.in_range.ensures ∙ c.if-in_range.true))
 
-pub returns : goal.returns
-returns c = sym (power_no_digit _ (sym c.in_range.ensures ∙ c.if-in_range.false))
+pub returns-else-in_range : goal.returns-else-in_range
+returns-else-in_range c = sym (power_no_digit _ (sym c.in_range.ensures ∙ c.if-in_range.false))
