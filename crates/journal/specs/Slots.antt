@@ -2,11 +2,10 @@
 -- row, column, digit, digit before, and three bytes, low first, of the mask.
 -- The layout is read and written here and nowhere else.
 -- Assumes nothing.
-use Rattle.std.specs.Prelude.{ℕ, ◌+◌, ◌-◌, ◌*◌, ◌^◌, Bool, not, List, [], ◌∷◌, leb, ltb, eqb, get_or}
+use Rattle.std.specs.Prelude.{ℕ, ◌+◌, ◌-◌, ◌*◌, ◌^◌, Bool, not, List, [], ◌∷◌, Option, Some, None, leb, ltb, eqb, get_or}
 use Rattle.sudoku.specs.Tests.{pick, both, either}
 use Rattle.sudoku.specs.Grid.{in_range, on_grid, cell_of}
 use Rattle.journal.specs.declared.DigitChange.{DigitChange}
-use Rattle.journal.specs.declared.DigitChange.TheVariants.{Put, None}
 use Rattle.journal.specs.declared.Move.{Move}
 use Rattle.journal.specs.declared.Move.TheVariants.{Place, Erase, WriteMark, StrikeMark}
 use Rattle.journal.specs.declared.Slot.{Slot}
@@ -93,6 +92,7 @@ is_sound given slot =
 
 -- what a slot's move does to the digit of its cell: a place puts
 -- its digit there, an erase empties it, and a mark changes no digit
-unfoldable pub digit_change : Slot → DigitChange
+unfoldable pub digit_change : Slot → Option DigitChange
 digit_change slot =
-    pick (eqb slot.kind place_kind) (Put slot.before slot.digit) (pick (eqb slot.kind erase_kind) (Put slot.before 0) None)
+    pick (eqb slot.kind place_kind) (Some (record { before = slot.before; after = slot.digit }))
+    (pick (eqb slot.kind erase_kind) (Some (record { before = slot.before; after = 0 })) None)

@@ -3,26 +3,25 @@
 ghost use Rattle.std.specs.Prelude.{◌≡◌, ◌*◌};
 ghost use Rattle.sudoku.specs.Tests.{bit};
 ghost use Rattle.journal.specs.Limits.{check_bytes};
-ghost use Rattle.journal.specs.Bytes.{two as two_bytes};
 ghost use Rattle.journal.specs.Code.Laid.{laid};
 ghost use Rattle.journal.specs.StoredChecks.{stored as stored_of, is_right, judged, stored_bytes, verdict_byte, asked_at, sound_stored, is_sound_check};
 
+use crate::lent::{from_entry, write_entry};
 use crate::slots::is_free;
 use crate::{Asked, CHECK_BYTES, MAX_MOVES};
-use puzzle::{byte_at, digit_at, index_of};
-use sudoku::{cell_of, in_range, wide};
+use puzzle::{byte_at, digit_at};
+use sudoku::{cell_of, in_range};
 
 // The verdict as a byte: 1 for right, else 0.
+#[tactic(auto, unfolding(sudoku::specs::Tests::bit))]
 pub fn verdict(right: bool) -> u8
     ensures { result ≡ bit right }
 {
-    if right {
-        return 1;
-    }
-    0
+    u8::from(right)
 }
 
 // Whether a digit is the solution's at a cell.
+#[tactic(auto, unfolding(crate::specs::StoredChecks::is_right))]
 pub fn is_right(solution: &[u8; 81], cell: usize, digit: u8) -> bool
     ensures { result ≡ is_right solution.now cell digit }
 {
@@ -30,19 +29,20 @@ pub fn is_right(solution: &[u8; 81], cell: usize, digit: u8) -> bool
 }
 
 // Writes a check behind `index` others; a memory that ends before it stays as it is.
+#[tactic(auto, unfolding(crate::specs::StoredChecks::stored_bytes, crate::specs::Bytes::low, crate::specs::Bytes::second))]
 fn write_check(checks: &mut [u8], index: usize, asked: Asked, right: bool)
     ensures { checks.new ≡ laid checks.old (check_bytes * index) (stored_bytes (stored_of asked right)) }
 {
-    if index >= checks.len() / CHECK_BYTES {
-        return;
-    }
-    let start = CHECK_BYTES * index;
-    checks[start] = (asked.standing % 256) as u8;
-    checks[start + 1] = (asked.standing / 256 % 256) as u8;
-    checks[start + 2] = asked.row;
-    checks[start + 3] = asked.column;
-    checks[start + 4] = asked.digit;
-    checks[start + 5] = verdict(right);
+    let [low, second, ..] = asked.standing.to_le_bytes();
+    let bytes = [
+        low,
+        second,
+        asked.row,
+        asked.column,
+        asked.digit,
+        verdict(right),
+    ];
+    write_entry(checks, index, &bytes);
 }
 
 // Judges a digit and stores the check behind `index` others, where the memory has room for it; answers the verdict.
@@ -54,65 +54,42 @@ pub fn store_check(checks: &mut [u8], index: usize, solution: &[u8; 81], asked: 
     right
 }
 
-// Two bytes, low first, as a number.
-fn two(low: u8, second: u8) -> usize
-    ensures { result ≡ two_bytes low second }
-{
-    wide(low) + 256 * wide(second)
-}
-
-// What stored check n asked, and its verdict byte. What lies past the end of the memory reads as 0.
+// What stored check n asked. What lies past the end of the memory reads as 0.
+#[tactic(auto, unfolding(crate::specs::StoredChecks::check_start, crate::specs::Bytes::two))]
 pub fn check_at(checks: &[u8], n: usize) -> Asked
     ensures { result ≡ asked_at checks.now n }
 {
-    let index = index_of(n);
-    if index > checks.len() / CHECK_BYTES {
-        return Asked {
-            standing: 0,
-            row: 0,
-            column: 0,
-            digit: 0,
-        };
-    }
-    let start = CHECK_BYTES * index;
+    let check = from_entry::<CHECK_BYTES>(checks, n);
+    let standing = u16::from_le_bytes([byte_at(check, 0), byte_at(check, 1)]);
     Asked {
-        standing: two(byte_at(checks, start), byte_at(checks, start + 1)),
-        row: byte_at(checks, start + 2),
-        column: byte_at(checks, start + 3),
-        digit: byte_at(checks, start + 4),
+        standing: usize::from(standing),
+        row: byte_at(check, 2),
+        column: byte_at(check, 3),
+        digit: byte_at(check, 4),
     }
 }
 
+// The verdict byte of stored check n, 0 past the end of the memory.
+#[tactic(auto, unfolding(crate::specs::StoredChecks::check_start, crate::specs::StoredChecks::verdict_byte))]
 pub fn verdict_at(checks: &[u8], n: usize) -> u8
     ensures { result ≡ verdict_byte checks.now n }
 {
-    let index = index_of(n);
-    if index > checks.len() / CHECK_BYTES {
-        return 0;
-    }
-    byte_at(checks, CHECK_BYTES * index + 5)
+    byte_at(from_entry::<CHECK_BYTES>(checks, n), 5)
 }
 
 // Whether the fields of a check and its verdict byte lie in their ranges, and its cell is on the grid and no given's.
+#[tactic(auto, unfolding(crate::specs::StoredChecks::sound_stored, sudoku::specs::Tests::both))]
 fn sound_fields(given: &[u8; 81], asked: Asked, verdict: u8) -> bool
     ensures { result ≡ sound_stored given.now asked verdict }
 {
-    if !is_free(given, asked.row, asked.column) {
-        return false;
-    }
-    if asked.standing < 1 {
-        return false;
-    }
-    if asked.standing > MAX_MOVES {
-        return false;
-    }
-    if !in_range(asked.digit) {
-        return false;
-    }
-    verdict <= 1
+    is_free(given, asked.row, asked.column)
+        && (1..=MAX_MOVES).contains(&asked.standing)
+        && in_range(asked.digit)
+        && verdict <= 1
 }
 
 // Whether stored check n is sound.
+#[tactic(auto, unfolding(crate::specs::StoredChecks::is_sound_check))]
 pub fn is_sound_check(given: &[u8; 81], checks: &[u8], n: usize) -> bool
     ensures { result ≡ is_sound_check given.now checks.now n }
 {

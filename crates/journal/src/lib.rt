@@ -2,7 +2,11 @@
 // what each one displaces, slots of eight bytes, and the two counts.
 #![tactic(auto)]
 
+ghost use Rattle.std.specs.Prelude.{◌≡◌};
+ghost use Rattle.journal.specs.Kinds.{kind_at, kind_byte};
+
 pub mod checks;
+mod lent;
 pub mod notes;
 pub mod slots;
 pub mod steps;
@@ -36,8 +40,52 @@ pub const JOURNAL_BYTES: usize = SLOT_BYTES * MAX_MOVES;
 
 pub const CHECK_MEMORY: usize = CHECK_BYTES * MAX_CHECKS;
 
+// The kinds of the four moves.
+#[derive(Clone, Copy, PartialEq, Eq)]
+pub enum MoveKind {
+    Place,
+    Erase,
+    WriteMark,
+    StrikeMark,
+}
+
+// A byte that is the kind of no move.
+#[derive(Clone, Copy, PartialEq, Eq)]
+pub struct NoMove;
+
+impl From<MoveKind> for u8 {
+    ghost from_gives = { λ kind byte. byte ≡ kind_byte kind };
+
+    #[tactic(auto, unfolding(crate::specs::Kinds::kind_byte))]
+    fn from(kind: MoveKind) -> u8 {
+        match kind {
+            MoveKind::Place => PLACE,
+            MoveKind::Erase => ERASE,
+            MoveKind::WriteMark => WRITE_MARK,
+            MoveKind::StrikeMark => STRIKE_MARK,
+        }
+    }
+}
+
+impl TryFrom<u8> for MoveKind {
+    type Error = NoMove;
+
+    ghost try_from_gives = { λ byte kind. kind ≡ kind_at byte };
+
+    #[tactic(auto, unfolding(crate::specs::Kinds::kind_at, sudoku::specs::Tests::pick))]
+    fn try_from(byte: u8) -> Result<MoveKind, NoMove> {
+        match byte {
+            PLACE => Ok(MoveKind::Place),
+            ERASE => Ok(MoveKind::Erase),
+            WRITE_MARK => Ok(MoveKind::WriteMark),
+            STRIKE_MARK => Ok(MoveKind::StrikeMark),
+            _ => Err(NoMove),
+        }
+    }
+}
+
 // The four moves.
-#[derive(Clone, Copy)]
+#[derive(Clone, Copy, PartialEq, Eq)]
 pub enum Move {
     Place { row: u8, column: u8, digit: u8 },
     Erase { row: u8, column: u8 },
@@ -47,7 +95,8 @@ pub enum Move {
 
 // A slot, read: the move's four bytes, the digit before, and the mask
 // of the peers that lost the mark, bit i for peer i of the target.
-#[derive(Clone, Copy)]
+// The kind stays a byte: lent memory may hold any, and whether a slot is sound is asked of that byte.
+#[derive(Clone, Copy, PartialEq, Eq)]
 pub struct Slot {
     pub kind: u8,
     pub row: u8,
@@ -58,7 +107,7 @@ pub struct Slot {
 }
 
 // A check as it is asked: how many moves stand, the cell, and the digit that is asked about.
-#[derive(Clone, Copy)]
+#[derive(Clone, Copy, PartialEq, Eq)]
 pub struct Asked {
     pub standing: usize,
     pub row: u8,
@@ -67,15 +116,15 @@ pub struct Asked {
 }
 
 // What a move does to the digit of its cell: the digit that stood before
-// and the one that stands after, 0 for an empty cell. A mark changes none.
-#[derive(Clone, Copy)]
-pub enum DigitChange {
-    Put { before: u8, after: u8 },
-    None,
+// and the one that stands after, 0 for an empty cell.
+#[derive(Clone, Copy, PartialEq, Eq)]
+pub struct DigitChange {
+    pub before: u8,
+    pub after: u8,
 }
 
 // The journal's two counts.
-#[derive(Clone, Copy)]
+#[derive(Clone, Copy, PartialEq, Eq)]
 pub struct Counts {
     pub made: usize,
     pub standing: usize,

@@ -14,7 +14,7 @@ use Rattle.sudoku.proofs.Walks.{pick_false, both_left, both_second}
 use Rattle.sudoku.proofs.Grid.{cell_of_is_cell}
 use Rattle.note.specs.Note.{contains}
 use Rattle.journal.specs.declared.DigitChange.{DigitChange}
-use Rattle.journal.specs.declared.DigitChange.TheVariants.{Put, None}
+use Rattle.std.specs.Prelude.{Option, Some, None}
 use Rattle.journal.specs.declared.Move.{Move}
 use Rattle.journal.specs.declared.Move.TheVariants.{Place, Erase, WriteMark, StrikeMark}
 use Rattle.journal.specs.declared.Slot.{Slot}
@@ -88,8 +88,8 @@ module _ (slot : Slot) (given : List ℕ) (h : is_sound given slot ≡ true) whe
 abbrev move_by : ℕ → ℕ → ℕ → Bool → Bool → Bool → Move
 move_by row column digit p e w = pick p (Place row column digit) (pick e (Erase row column) (pick w (WriteMark row column digit) (StrikeMark row column digit)))
 
-abbrev change_by : ℕ → ℕ → Bool → Bool → DigitChange
-change_by before digit p e = pick p (Put before digit) (pick e (Put before 0) None)
+abbrev change_by : ℕ → ℕ → Bool → Bool → Option DigitChange
+change_by before digit p e = pick p (Some (record { before = before; after = digit })) (pick e (Some (record { before = before; after = 0 })) None)
 
 module _ (s : State) (row column digit before mask : ℕ) where
   back_by : (p e w : Bool)

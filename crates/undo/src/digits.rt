@@ -24,7 +24,7 @@ pub fn put_back(digits: &mut [u8; 81], solved: u8, slot: Slot) -> Changed
     ensures { (result.stood ≡ digit_left digits.old (cell_of slot.row slot.column) (digit_change slot)) × ((given notes : List ℕ) → (result.solved ≡ (digit_back (parts given digits.old notes solved) (cell_of slot.row slot.column) (digit_change slot)).solved) × (digits.new ≡ (digit_back (parts given digits.old notes solved) (cell_of slot.row slot.column) (digit_change slot)).digits)) }
 {
     let change = digit_change(slot);
-    let DigitChange::Put { before, after } = change else {
+    let Some(DigitChange { before, after }) = change else {
         return Changed {
             stood: true,
             solved: solved,
@@ -44,7 +44,7 @@ pub fn put_again(digits: &mut [u8; 81], solved: u8, slot: Slot) -> Changed
     ensures { (result.stood ≡ digit_found digits.old (cell_of slot.row slot.column) (digit_change slot)) × ((given notes : List ℕ) → (result.solved ≡ (digit_again (parts given digits.old notes solved) (cell_of slot.row slot.column) (digit_change slot)).solved) × (digits.new ≡ (digit_again (parts given digits.old notes solved) (cell_of slot.row slot.column) (digit_change slot)).digits)) }
 {
     let change = digit_change(slot);
-    let DigitChange::Put { before, after } = change else {
+    let Some(DigitChange { before, after }) = change else {
         return Changed {
             stood: true,
             solved: solved,

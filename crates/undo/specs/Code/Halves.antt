@@ -2,12 +2,11 @@
 -- digit of its cell and the marks, and what is asked of each before.
 -- proofs/Parts shows that the two parts are the whole of specs/State, and that of a sound slot they ask the whole.
 -- Assumes nothing.
-use Rattle.std.specs.Prelude.{ℕ, ◌+◌, Bool, true, not, List, eqb, leb}
+use Rattle.std.specs.Prelude.{ℕ, ◌+◌, Bool, true, not, List, Option, Some, None, eqb, leb}
 use Rattle.sudoku.specs.Tests.{pick}
 use Rattle.sudoku.specs.Grid.{cell_of, at, peers_of}
 use Rattle.note.specs.Note.{contains}
 use Rattle.journal.specs.declared.DigitChange.{DigitChange}
-use Rattle.journal.specs.declared.DigitChange.TheVariants.{Put, None}
 use Rattle.journal.specs.declared.Move.{Move}
 use Rattle.journal.specs.declared.Move.TheVariants.{Place, Erase, WriteMark, StrikeMark}
 use Rattle.journal.specs.State.{State, with_notes, put_digit, write_at, strike_at, write_masked, strike_masked, take_back}
@@ -16,13 +15,13 @@ use Rattle.journal.specs.Slots.{move_of}
 use Rattle.journal.specs.Code.InTurn.{lack_in_turn, none_missing_in_turn}
 
 -- the digit before, put back at a cell; a move that changes no digit changes nothing here
-unfoldable pub digit_back : State → ℕ → DigitChange → State
-digit_back s cell (Put before after) = put_digit s cell before
+unfoldable pub digit_back : State → ℕ → Option DigitChange → State
+digit_back s cell (Some change) = put_digit s cell change.before
 digit_back s cell None = s
 
 -- the digit after, put again
-unfoldable pub digit_again : State → ℕ → DigitChange → State
-digit_again s cell (Put before after) = put_digit s cell after
+unfoldable pub digit_again : State → ℕ → Option DigitChange → State
+digit_again s cell (Some change) = put_digit s cell change.after
 digit_again s cell None = s
 
 -- the slot of the next move to redo, and 0 where there is none
@@ -48,13 +47,13 @@ unfoldable pub back_if : Bool → State → Slot → State
 back_if fits s slot = pick fits (take_back s (move_of slot) slot.before slot.struck) s
 
 -- the digit that a recorded move changed stands as the move left it; a move that changes no digit left every digit
-unfoldable pub digit_left : List ℕ → ℕ → DigitChange → Bool
-digit_left digits cell (Put before after) = eqb (at digits cell) after
+unfoldable pub digit_left : List ℕ → ℕ → Option DigitChange → Bool
+digit_left digits cell (Some change) = eqb (at digits cell) change.after
 digit_left digits cell None = true
 
 -- it stands as the move found it
-unfoldable pub digit_found : List ℕ → ℕ → DigitChange → Bool
-digit_found digits cell (Put before after) = eqb (at digits cell) before
+unfoldable pub digit_found : List ℕ → ℕ → Option DigitChange → Bool
+digit_found digits cell (Some change) = eqb (at digits cell) change.before
 digit_found digits cell None = true
 
 -- the marks that a recorded move changed stand as the move left them, each asked when it is given back

@@ -11,4 +11,4 @@ returns-in_default c = rw (← c.digit_change-change.ensures, c.in_default.is) (
 pub returns : goal.returns
 unfolding digit_left digit_back
 returns c =
-    rw (← c.digit_change-change.ensures, c.in-Put.is, ← c.cell_of-cell.ensures.0, c.digit_at.ensures) (refl, λ given notes. c.put_in.ensures given notes)
+    rw (← c.digit_change-change.ensures, c.in-Some.is, ← c.cell_of-cell.ensures.0, c.digit_at.ensures) (refl, λ given notes. c.put_in.ensures given notes)
