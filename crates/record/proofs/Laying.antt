@@ -87,6 +87,25 @@ module _ {A : Type 0} (g : A → Item) (f : ℕ → A) (e i : ℕ) where
   unfolding items_left listed encode_all
   items_none h = ap (λ (n : ℕ). encode_all (map g (listed f n i))) (sub-eq-zero_of_le h)
 
+-- a turn that lays the item of f's value at i, which the code holds as x; and the end
+module _ {A : Type 0} (g : A → Item) (f : ℕ → A) (e : ℕ) (out₀ : List ℕ) (start : ℕ) (all out : List ℕ) (at i : ℕ)
+    (l : Laying out₀ start all out at (items_left g f e i)) where
+  pub item_room : (x : A) → i < e → x ≡ f i → at + length (encode (g x)) ≤ length out
+  item_room x h q =
+      laying_room _ _ _ _ _ _ l (encode (g x)) (items_left g f e (i + 1))
+      (items_turn g f e i h ∙ ap (λ (y : A). encode (g y) ++ items_left g f e (i + 1)) (sym q))
+
+  pub item_laid : (x : A) (next : List ℕ) (on : ℕ) → i < e → x ≡ f i → on ≡ at + length (encode (g x)) → next ≡ over out at (encode (g x))
+      → Laying out₀ start all next on (items_left g f e (i + 1))
+  item_laid x next on h q =
+      laying_more _ _ _ _ _ _ l (encode (g x)) (items_left g f e (i + 1)) next on
+      (items_turn g f e i h ∙ ap (λ (y : A). encode (g y) ++ items_left g f e (i + 1)) (sym q))
+
+  pub items_laid : e ≤ i → (bytes : List ℕ) → bytes ≡ all → (at ≡ start + length bytes) × (out ≡ over out₀ start bytes)
+  items_laid h bytes q =
+      let end = laying_end _ _ _ _ _ _ l (items_none g f e i h) in
+      (omega (arith, end.0, ap length q), end.1 ∙ ap (over out₀ start) (sym q))
+
 back_one : (n : ℕ) → n + 1 - 1 ≡ n
 back_one n = omega arith
 
@@ -138,12 +157,6 @@ module _ (b : Board) (journal checks : List ℕ) where
         length_moves (moves_of journal b.made),
         length_listed (asked_at checks) b.checks 1,
       )
-
--- ---- one stored check
-
-pub six_laid : (l : List ℕ) (at a b c d e f : ℕ) → at + 6 ≤ length l
-    → over (over l at (a ∷ b ∷ c ∷ [])) (at + 3) (d ∷ e ∷ f ∷ []) ≡ over l at (a ∷ b ∷ c ∷ d ∷ e ∷ f ∷ [])
-six_laid l at a b c d e f h = over_join l at (a ∷ b ∷ c ∷ []) (omega arith) (d ∷ e ∷ f ∷ []) (omega arith)
 
 -- ---- the whole record, group by group
 

@@ -3,37 +3,67 @@
 use Prim.Native.Nat.{ℕ, ◌≤◌, ◌<◌}
 use mathlib.Core.Path.{◌≡◌, refl, sym, ap, ◌∙◌}
 use mathlib.Core.Bool.{Bool}
-use mathlib.Core.List.{List}
-use borrow.Author.Tests.{eqb-false, eq-eqb, ne_eqb, lt-ltb, le-ltb}
+use mathlib.Core.List.{List, []}
+use native.Mathlib.Omega.{arith}
+use borrow.Author.Tests.{eq-eqb, ne_eqb, lt-ltb, le-ltb}
 use lib.Dec.{ltb, eqb}
 use lib.ListN.{length}
-use Rattle.sudoku.specs.Tests.{both}
+use Rattle.sudoku.specs.Tests.{first, both}
 use Rattle.sudoku.proofs.Walks.{pick_true, pick_false}
 use Rattle.puzzle.specs.declared.Refusal.{Refusal}
 use Rattle.puzzle.specs.Refusals.{refusal, accepted, is_accepted, refused_if, or_else, first_refused}
 use Rattle.puzzle.proofs.Accepted.{if_not}
-use Rattle.puzzle.proofs.Refusals.{refused_if_lem, or_else_by, or_else_passed}
+use Rattle.puzzle.proofs.Refusals.{refused_if_lem, or_else_by, or_else_passed, or_else_past}
 use Rattle.journal.specs.Limits.{journal_bytes, check_memory}
 use Rattle.journal.specs.Bytes.{over}
 use Rattle.board.specs.declared.Board.{Board}
-use Rattle.play.specs.Play.{journal_refusal}
+use Rattle.board.specs.declared.error.PlayError.{PlayError}
+use Rattle.board.specs.Board.{lent_tests}
+use Rattle.board.specs.Errors.{play_number, play_refusal}
+use Rattle.board.proofs.Told.{has_number}
+use Rattle.play.specs.Play.{unsound_slot, journal_refusal}
+use Rattle.play.specs.declared.sound.Unsound.{Unsound}
+use Rattle.play.specs.declared.sound.Unsound.TheVariants.{Slot, Check}
+use Rattle.play.specs.Unsound.{unsound_refusal}
+use Rattle.play.proofs.Accepted.{lent_refuses, slots_decide}
+use Rattle.record.specs.declared.error.WriteError.{WriteError}
+use Rattle.record.specs.declared.error.WriteError.TheVariants.{Play, Unsound as NotSound, OutputTooShort}
+use Rattle.record.specs.Errors.{write_error_refusal}
 use Rattle.record.specs.Items.{record_of}
 use Rattle.record.specs.Write.{parts_of, unsound_check, unwritable, write_refusal, wrote, wrote_by, write_of}
 
--- ---- refusals
+-- ---- 1, 2 and 14
 
-module _ (b : Board) (journal checks : List ℕ) (fits : Bool) (same : fits ≡ both (eqb (length journal) journal_bytes) (eqb (length checks) check_memory)) (r : Refusal) (e : r ≡ journal_refusal fits b journal) where
-  decided : unwritable b journal checks ≡ or_else r (first_refused (unsound_check b.given checks) b.checks 1)
+-- each error has a number, and an accepted call's is 0
+has_number_14 : (e : Unsound) → (unsound_refusal e).number ≡ 0 → ⊥
+has_number_14 (Slot index) p = absurd (omega (arith, p))
+has_number_14 (Check index) p = absurd (omega (arith, p))
+
+pub has_number_of : (e : WriteError) → (write_error_refusal e).number ≡ 0 → ⊥
+has_number_of (Play e) p = omega (arith, has_number e, p)
+has_number_of (NotSound e) p = has_number_14 e p
+has_number_of OutputTooShort p = omega (arith, p)
+
+module _ (b : Board) (journal checks : List ℕ) (fits : Bool) (same : fits ≡ both (eqb (length journal) journal_bytes) (eqb (length checks) check_memory)) where
+  decided : (r : Refusal) → r ≡ journal_refusal fits b journal → unwritable b journal checks ≡ or_else r (first_refused (unsound_check b.given checks) b.checks 1)
   unfolding unwritable
-  decided =
+  decided r e =
       ap (λ (x : Refusal). or_else x (first_refused (unsound_check b.given checks) b.checks 1))
       (sym (e ∙ ap (λ (t : Bool). journal_refusal t b journal) same))
 
-  pub refused_before : (r.number ≡ 0 → ⊥) → r ≡ unwritable b journal checks
-  refused_before n = sym (decided ∙ or_else_by r _ r refl n)
+  pub lent_told : (e : PlayError) → play_number e ≡ first (lent_tests fits b []) → play_refusal e ≡ unwritable b journal checks
+  lent_told e p =
+      let some : play_number e ≡ 0 → ⊥ = λ z. omega (arith, has_number e, z) in
+      sym (decided (play_refusal e) (lent_refuses fits b journal (play_number e) p some) ∙ or_else_by (play_refusal e) _ (play_refusal e) refl some)
 
-  pub refused_after : r.number ≡ 0 → first_refused (unsound_check b.given checks) b.checks 1 ≡ unwritable b journal checks
-  refused_after n = sym (decided ∙ or_else_passed r _ n)
+  module _ (two : 0 ≡ first (lent_tests fits b [])) where
+    pub slots_told : (e : Unsound) → unsound_refusal e ≡ first_refused (unsound_slot b.given journal) b.made 1 → unsound_refusal e ≡ unwritable b journal checks
+    slots_told e p =
+        let r = unsound_refusal e in
+        sym (decided r (p ∙ slots_decide fits b journal 0 two refl) ∙ or_else_by r _ r refl (has_number_14 e))
+
+    pub checks_told : accepted ≡ first_refused (unsound_slot b.given journal) b.made 1 → first_refused (unsound_check b.given checks) b.checks 1 ≡ unwritable b journal checks
+    checks_told p = sym (decided accepted (p ∙ slots_decide fits b journal 0 two refl) ∙ or_else_passed accepted _ refl)
 
 -- ---- what a call that writes bytes answers
 
@@ -49,38 +79,33 @@ module _ (r : Refusal) (bytes output : List ℕ) where
   unfolding wrote_by is_accepted
   wrote_bytes z = sym (pick_true (is_accepted r) _ _ (eq-eqb r.number 0 z))
 
--- ---- what writing a record answers
+-- ---- what writing a record answers: the same, and 34
 
-module _ (b : Board) (journal checks output : List ℕ) (r : Refusal) (e : r ≡ unwritable b journal checks) where
-  abbrev bytes : List ℕ
-  bytes = record_of (parts_of b journal checks)
-
+module _ (b : Board) (journal checks output : List ℕ) where
   abbrev short : Refusal
-  short = refused_if (ltb (length output) (length bytes)) (refusal 34 0 0)
+  short = refused_if (ltb (length output) (length (record_of (parts_of b journal checks)))) (refusal 34 0 0)
 
-  decides : write_refusal b journal checks output ≡ or_else r short
+  pub not_kept : (e : WriteError) → write_error_refusal e ≡ unwritable b journal checks → write_error_refusal e ≡ write_refusal b journal checks output
   unfolding write_refusal
-  decides = ap (λ (x : Refusal). or_else x short) (sym e)
+  not_kept e p = sym (or_else_by _ short (write_error_refusal e) (sym p) (has_number_of e))
 
-  pub not_written : (r.number ≡ 0 → ⊥) → wrote r 0 output ≡ write_of b journal checks output
-  unfolding write_of
-  not_written n = wrote_nothing (write_refusal b journal checks output) bytes output r (decides ∙ or_else_by r short r refl n) n
-
-  module _ (z : r.number ≡ 0) (size : ℕ) (is : size ≡ length bytes) where
+  module _ (kept : accepted ≡ unwritable b journal checks) (size : ℕ) (is : size ≡ length (record_of (parts_of b journal checks))) where
     by_length : write_refusal b journal checks output ≡ short
-    by_length = decides ∙ or_else_passed r short z
+    unfolding write_refusal
+    by_length = or_else_past _ short (sym kept)
 
-    pub too_short : length output < size → wrote (refusal 34 0 0) 0 output ≡ write_of b journal checks output
-    unfolding write_of
-    too_short h =
-        wrote_nothing (write_refusal b journal checks output) bytes output (refusal 34 0 0)
-        (by_length ∙ refused_if_lem _ (refusal 34 0 0) (ap (ltb (length output)) (sym is) ∙ lt-ltb (length output) size h))
-        (eqb-false 34 0 refl)
+    pub too_short : length output < size → refusal 34 0 0 ≡ write_refusal b journal checks output
+    too_short h = sym (by_length ∙ refused_if_lem _ (refusal 34 0 0) (ap (ltb (length output)) (sym is) ∙ lt-ltb (length output) size h))
 
-    pub written : size ≤ length output → wrote accepted size (over output 0 bytes) ≡ write_of b journal checks output
-    unfolding write_of
-    written h =
-        ap (λ (n : ℕ). wrote accepted n (over output 0 bytes)) is
-        ∙ wrote_bytes (write_refusal b journal checks output) bytes output
-        (ap (λ (x : Refusal). x.number)
-        (by_length ∙ if_not _ (refusal 34 0 0) (ap (ltb (length output)) (sym is) ∙ le-ltb (length output) size h)))
+    pub long_enough : size ≤ length output → accepted ≡ write_refusal b journal checks output
+    long_enough h = sym (by_length ∙ if_not _ (refusal 34 0 0) (ap (ltb (length output)) (sym is) ∙ le-ltb (length output) size h))
+
+  pub refused_told : (e : WriteError) → write_error_refusal e ≡ write_refusal b journal checks output
+      → wrote (write_error_refusal e) 0 output ≡ write_of b journal checks output
+  unfolding write_of
+  refused_told e p = wrote_nothing (write_refusal b journal checks output) _ output (write_error_refusal e) (sym p) (has_number_of e)
+
+  pub written_told : accepted ≡ write_refusal b journal checks output
+      → wrote accepted (length (record_of (parts_of b journal checks))) (over output 0 (record_of (parts_of b journal checks))) ≡ write_of b journal checks output
+  unfolding write_of
+  written_told p = wrote_bytes (write_refusal b journal checks output) _ output (ap (λ (r : Refusal). r.number) (sym p))

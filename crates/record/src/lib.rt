@@ -6,6 +6,7 @@ use journal::{MAX_CHECKS, MAX_MOVES, Move};
 use puzzle::Refusal;
 use sudoku::CELLS;
 
+pub mod error;
 pub mod items;
 pub mod scan;
 pub mod write;

@@ -1,6 +1,6 @@
 -- `record::write::count_givens` meets its contract: what was counted so far, and what is left.
 -- Assumes nothing.
-use Prim.Native.Nat.{◌≤◌, ◌<◌, ◌+◌, ◌-◌}
+use Prim.Native.Nat.{◌<◌, ◌+◌, ◌-◌}
 use mathlib.Core.Path.{◌≡◌}
 use Rattle.puzzle.specs.Givens.{is_given}
 use Rattle.sudoku.specs.Tests.{count}
@@ -8,9 +8,4 @@ use Rattle.record.proofs.write.count_givens.Given as goal
 
 abbrev pub invariant-loop-cell : goal.invariant-loop-cell
 invariant-loop-cell l =
-    (1 ≤ l.cell) × (l.cell ≤ 82) × (l.n < l.cell)
-    × (count (is_given l.given) 81 1 ≡ l.n + count (is_given l.given) (82 - l.cell) l.cell)
-
-abbrev pub decreases-loop-cell : goal.decreases-loop-cell
-decreases-loop-cell l =
-    82 - l.cell
+    (l.n < l.cell) × (count (is_given l.given) 81 1 ≡ l.n + count (is_given l.given) (82 - l.cell) l.cell)

@@ -17,7 +17,7 @@ pub returns-then-not-is_given : goal.returns-then-not-is_given
 unfolding given_bytes
 returns-then-not-is_given c =
     let a = c.args in
-    let none : given_bytes a.given.now a.digits.now a.cell ≡ [] = pick_false (is_given a.given.now a.cell) (1 ∷ row_of a.cell ∷ column_of a.cell ∷ at a.digits.now a.cell ∷ []) [] (sym c.is_given.ensures ∙ c.if-not-is_given.true) in
+    let none : given_bytes a.board.now.given a.board.now.digits a.cell ≡ [] = pick_false (is_given a.board.now.given a.cell) (1 ∷ row_of a.cell ∷ column_of a.cell ∷ at a.board.now.digits a.cell ∷ []) [] (sym c.is_given.ensures ∙ c.if-not-is_given.true) in
     (omega (arith, ap length none), sym (over_nil a.output.now a.at) ∙ ap (over a.output.now a.at) (sym none))
 
 pub overflow_cast-row : goal.overflow_cast-row
@@ -25,21 +25,21 @@ unfolding row_of
 overflow_cast-row c =
     omega (arith, c.row_of-row.ensures, c.requires.0)
 
-pub lay_four-requires : goal.lay_four-requires
+pub lay-requires : goal.lay-requires
 unfolding given_bytes
-lay_four-requires c =
+lay-requires c =
     let a = c.args in
-    let item : given_bytes a.given.now a.digits.now a.cell ≡ (1 ∷ row_of a.cell ∷ column_of a.cell ∷ at a.digits.now a.cell ∷ []) = pick_true (is_given a.given.now a.cell) (1 ∷ row_of a.cell ∷ column_of a.cell ∷ at a.digits.now a.cell ∷ []) [] (sym c.is_given.ensures ∙ c.if-not-is_given.false) in
+    let item : given_bytes a.board.now.given a.board.now.digits a.cell ≡ (1 ∷ row_of a.cell ∷ column_of a.cell ∷ at a.board.now.digits a.cell ∷ []) = pick_true (is_given a.board.now.given a.cell) (1 ∷ row_of a.cell ∷ column_of a.cell ∷ at a.board.now.digits a.cell ∷ []) [] (sym c.is_given.ensures ∙ c.if-not-is_given.false) in
     omega (arith, ap length item, c.requires.1)
 
 pub returns : goal.returns
 unfolding given_bytes
 returns c =
     let a = c.args in
-    let lay_four = c.lay_four in
-    let item : given_bytes a.given.now a.digits.now a.cell ≡ (1 ∷ row_of a.cell ∷ column_of a.cell ∷ at a.digits.now a.cell ∷ []) = pick_true (is_given a.given.now a.cell) (1 ∷ row_of a.cell ∷ column_of a.cell ∷ at a.digits.now a.cell ∷ []) [] (sym c.is_given.ensures ∙ c.if-not-is_given.false) in (
-      lay_four.ensures.0 ∙ ap (λ (l : List ℕ). a.at + length l) (sym item),
-      lay_four.ensures.1
+    let lay = c.lay in
+    let item : given_bytes a.board.now.given a.board.now.digits a.cell ≡ (1 ∷ row_of a.cell ∷ column_of a.cell ∷ at a.board.now.digits a.cell ∷ []) = pick_true (is_given a.board.now.given a.cell) (1 ∷ row_of a.cell ∷ column_of a.cell ∷ at a.board.now.digits a.cell ∷ []) [] (sym c.is_given.ensures ∙ c.if-not-is_given.false) in (
+      lay.ensures.0 ∙ ap (λ (l : List ℕ). a.at + length l) (sym item),
+      lay.ensures.1
           ∙ (λ j. over a.output.now a.at (1 ∷ c.row_of-row.ensures j ∷ c.column_of-column.ensures.0 j ∷ c.digit_at.ensures j ∷ []))
           ∙ ap (over a.output.now a.at) (sym item),
     )
