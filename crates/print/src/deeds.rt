@@ -1,99 +1,101 @@
 // Moves and checks, each on a line of its own.
-use crate::{counted, number, say};
+use crate::{Count, show};
 use journal::{ERASE, PLACE, Slot, WRITE_MARK};
-use sudoku::{PEERS_PER_CELL, cell_of, column_of, peers, row_of, wide};
+use std::fmt;
+use std::fmt::Display;
+use sudoku::{cell_of, column_of, peers, row_of};
 
-fn at(row: u8, column: u8) {
-    say(b" at row ");
-    number(wide(row));
-    say(b", column ");
-    number(wide(column));
+#[derive(Clone, Copy)]
+struct At {
+    row: u8,
+    column: u8,
 }
 
-// A peer that lost the mark, where the mask's lowest bit says so.
-fn struck_peer(mask: u32, cell: usize) {
-    if mask % 2 == 0 {
-        return;
+impl Display for At {
+    fn fmt<W: fmt::Write>(&self, f: &mut fmt::Formatter<W>) -> fmt::Result {
+        let At { row, column } = *self;
+        write!(f, " at row {row}, column {column}")
     }
-    say(b" (");
-    number(row_of(cell));
-    say(b",");
-    number(column_of(cell));
-    say(b")");
 }
 
-// The peers that lost the mark.
-fn struck_peers(struck: u32, cell: usize) {
-    let all = peers(cell);
-    let mut mask = struck;
-    let mut i: usize = 0;
-    while i < PEERS_PER_CELL {
-        struck_peer(mask, wide(all[i]));
-        mask /= 2;
-        i += 1;
+// The peers of the move's cell that lost the mark.
+#[derive(Clone, Copy)]
+struct Struck(Slot);
+
+impl Display for Struck {
+    fn fmt<W: fmt::Write>(&self, f: &mut fmt::Formatter<W>) -> fmt::Result {
+        let mut mask = self.0.struck;
+        for peer in peers(cell_of(self.0.row, self.0.column)) {
+            if mask % 2 != 0 {
+                let row = row_of(usize::from(peer));
+                let column = column_of(usize::from(peer));
+                write!(f, " ({row},{column})")?;
+            }
+            mask /= 2;
+        }
+        Ok(())
     }
 }
 
 // What a move displaced: the digit before, and the marks that its digit struck.
-fn displaced(slot: Slot) {
-    if slot.before != 0 {
-        say(b", in place of ");
-        number(wide(slot.before));
-    }
-    if slot.struck != 0 {
-        say(b", striking the mark at");
-        struck_peers(slot.struck, cell_of(slot.row, slot.column));
+#[derive(Clone, Copy)]
+struct Displaced(Slot);
+
+impl Display for Displaced {
+    fn fmt<W: fmt::Write>(&self, f: &mut fmt::Formatter<W>) -> fmt::Result {
+        let slot = self.0;
+        let before = slot.before;
+        if before != 0 {
+            write!(f, ", in place of {before}")?;
+        }
+        if slot.struck != 0 {
+            let struck = Struck(slot);
+            write!(f, ", striking the mark at{struck}")?;
+        }
+        Ok(())
     }
 }
 
-// The kind of a move, in a word.
-fn kind_word(kind: u8) {
-    if kind == PLACE {
-        say(b"place ");
-        return;
-    }
-    if kind == ERASE {
-        say(b"erase");
-        return;
-    }
-    if kind == WRITE_MARK {
-        say(b"mark ");
-        return;
-    }
-    say(b"strike ");
-}
+// What a move did: its kind in a word, and the digit where it has one.
+#[derive(Clone, Copy)]
+struct Deed(Slot);
 
-// What a move did.
-fn deed(slot: Slot) {
-    kind_word(slot.kind);
-    if slot.digit != 0 {
-        number(wide(slot.digit));
+impl Display for Deed {
+    fn fmt<W: fmt::Write>(&self, f: &mut fmt::Formatter<W>) -> fmt::Result {
+        f.write_str(match self.0.kind {
+            PLACE => "place ",
+            ERASE => "erase",
+            WRITE_MARK => "mark ",
+            _ => "strike ",
+        })?;
+        let digit = self.0.digit;
+        if digit != 0 {
+            write!(f, "{digit}")?;
+        }
+        Ok(())
     }
 }
 
 // Move n on a line of its own, with what it displaced and whether it is undone.
 pub fn made(n: usize, slot: Slot, undone: bool) {
-    say(b"move ");
-    number(n);
-    say(b": ");
-    deed(slot);
-    at(slot.row, slot.column);
-    displaced(slot);
-    if undone {
-        say(b" (undone)");
-    }
-    say(b"\n");
+    let at = At {
+        row: slot.row,
+        column: slot.column,
+    };
+    let deed = Deed(slot);
+    let displaced = Displaced(slot);
+    let undone = if undone { " (undone)" } else { "" };
+    show(format_args!("move {n}: {deed}{at}{displaced}{undone}\n"));
 }
 
 // A check on a line of its own, with its verdict.
 pub fn verdict(standing: usize, row: u8, column: u8, digit: u8, right: bool) {
-    number(wide(digit));
-    at(row, column);
-    if right {
-        say(b" is right");
-    } else {
-        say(b" is wrong");
-    }
-    say(b" (");
-    counted(standing, b" move stood)\n", b" moves stood)\n");
+    let at = At { row, column };
+    let verdict = if right { "right" } else { "wrong" };
+    let moves = Count {
+        n: standing,
+        one: " move",
+        more: " moves",
+    };
+    show(format_args!("{digit}{at} is {verdict} ({moves} stood)\n"));
 }

@@ -2,6 +2,9 @@
 // this is thin: the drawing is made in crate screen, every answer in the library.
 #![tactic(auto)]
 
+use std::fmt;
+use std::fmt::Display;
+
 pub mod deeds;
 pub mod drawing;
 pub mod words;
@@ -9,44 +12,74 @@ pub mod words;
 // The descriptor that a program writes to.
 const STDOUT: i32 = 1;
 
+// Standard output. A write that fails is passed over: there is nowhere else to say it.
+#[derive(Clone, Copy)]
+struct Output;
+
+impl fmt::Write for Output {
+    fn write_str(&mut self, text: &str) -> fmt::Result {
+        say(text.as_bytes());
+        Ok(())
+    }
+}
+
+// Shows a value, as it displays itself.
+pub fn show<T: Display + Drop>(value: T) {
+    let mut output = Output;
+    let _ = fmt::Write::write(&mut output, value);
+}
+
+// Bytes as they are: a drawing, a line.
 pub fn say(text: &[u8]) {
     io::write_all(STDOUT, text);
 }
 
+// until its callers have moved to `show`
 pub fn number(n: usize) {
-    io::print_decimal(STDOUT, n as u64);
+    show(n);
 }
 
 fn is_printable(byte: u8) -> bool {
-    if byte < 32 {
-        return false;
-    }
-    byte <= 126
+    matches!(byte, b' '..=b'~')
 }
 
-// A byte, or ? where it is not printable.
-fn shown_byte(byte: u8) {
-    if is_printable(byte) {
-        return say(&[byte]);
+// A text from outside: its printable characters, and ? for every other byte.
+#[derive(Clone, Copy)]
+pub struct Printable<'a>(pub &'a [u8]);
+
+impl<'a> Display for Printable<'a> {
+    fn fmt<W: fmt::Write>(&self, f: &mut fmt::Formatter<W>) -> fmt::Result {
+        for byte in self.0 {
+            let shown = if is_printable(*byte) { *byte } else { b'?' };
+            f.write_char(char::from(shown))?;
+        }
+        Ok(())
     }
-    say(b"?");
 }
 
 // A text from outside, its printable characters alone.
 pub fn shown(text: &[u8]) {
-    let mut i: usize = 0;
-    while i < text.len() {
-        shown_byte(text[i]);
-        i += 1;
+    show(Printable(text));
+}
+
+// How many there are of a thing, with its noun.
+#[derive(Clone, Copy)]
+pub struct Count {
+    pub n: usize,
+    pub one: &'static str,
+    pub more: &'static str,
+}
+
+impl Display for Count {
+    fn fmt<W: fmt::Write>(&self, f: &mut fmt::Formatter<W>) -> fmt::Result {
+        let Count { n, one, more } = *self;
+        let noun = if n == 1 { one } else { more };
+        write!(f, "{n}{noun}")
     }
 }
 
-// How many there are of a thing.
+// How many there are of a thing; until its callers have moved to `Count`.
 pub fn counted(n: usize, one: &[u8], more: &[u8]) {
     number(n);
-    if n == 1 {
-        say(one);
-        return;
-    }
-    say(more);
+    say(if n == 1 { one } else { more });
 }
