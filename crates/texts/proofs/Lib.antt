@@ -1,1 +1,2 @@
 pub mod FirstNot
+pub mod Grid

@@ -1,23 +1,54 @@
 // Puzzles and solutions as text: 81 cells row by row, 1 to 9 for a digit, a full stop or 0 for an empty cell.
 // White space is passed over.
-ghost use Rattle.std.specs.Prelude.{◌≡◌};
-ghost use Rattle.texts.specs.Grids.{is_space, with_cell, with_character, cells_of};
+ghost use Rattle.std.specs.Prelude.{◌≡◌, ◌≤◌};
+ghost use Rattle.texts.specs.Grids.{is_space, so_far, with_cell, with_character, cells_of, grid_of};
 
-use crate::Cells;
+use crate::{Cells, CellsError};
 use puzzle::text::cell_value;
+use std::cmp::Ordering;
 use sudoku::CELLS;
 
 // Blank, tab, line end and the like.
+#[tactic(auto, unfolding(crate::specs::Grids::is_space, sudoku::specs::Tests::both, sudoku::specs::Tests::either))]
 fn is_space(byte: u8) -> bool
     ensures { result ≡ is_space byte }
 {
-    if byte == 32 {
-        return true;
+    matches!(byte, b' ' | b'\t'..=b'\r')
+}
+
+// A cell more behind some. 81 are kept, and beyond them only that there are more; answers how many there are.
+#[tactic(auto, unfolding(crate::specs::Grids::with_cell, sudoku::specs::Tests::pick))]
+fn put(cells: &mut [u8; 81], count: usize, value: u8) -> usize
+    ensures { (so_far cells.new result ≡ with_cell (so_far cells.old count) value) × (result ≤ 82) }
+{
+    if count < CELLS {
+        cells[count] = value;
+        return count + 1;
     }
-    if byte < 9 {
-        return false;
+    CELLS + 1
+}
+
+// The 81 cells of a text.
+pub fn grid(text: &[u8]) -> Result<[u8; 81], CellsError>
+    ensures { result ≡ grid_of text.now }
+{
+    let mut cells = [0u8; 81];
+    let mut count: usize = 0;
+    for (i, byte) in text.iter().enumerate() {
+        if is_space(*byte) {
+            continue;
+        }
+        let value = cell_value(*byte);
+        if value > 9 {
+            return Err(CellsError::Wrong { character: i + 1 });
+        }
+        count = put(&mut cells, count, value);
     }
-    byte <= 13
+    match count.cmp(&CELLS) {
+        Ordering::Less => Err(CellsError::Few { count }),
+        Ordering::Equal => Ok(cells),
+        Ordering::Greater => Err(CellsError::Many),
+    }
 }
 
 // One cell more. 81 are kept, and beyond them only that there are more.

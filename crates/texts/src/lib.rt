@@ -8,13 +8,22 @@ ghost use Rattle.texts.specs.Parts.{part_of};
 pub mod commands;
 pub mod grids;
 
-// The cells of a text: how many there are (82 where there are more than 81), the first 81 of them, and the first
+// Until its callers have moved: the cells of a text: how many there are (82 where there are more than 81), the first 81 of them, and the first
 // character that is neither a cell nor white space, counted from 1; 0 where there is none.
 #[derive(Clone, Copy)]
 pub struct Cells {
     pub cells: [u8; 81],
     pub count: usize,
     pub wrong: usize,
+}
+
+// Why a text is not 81 cells: its first character, counted from 1, that is neither a cell nor white space; or that it has
+// more cells, or how many it has.
+#[derive(Clone, Copy, PartialEq, Eq)]
+pub enum CellsError {
+    Wrong { character: usize },
+    Many,
+    Few { count: usize },
 }
 
 // A word of a line: where it starts, and where it ends.

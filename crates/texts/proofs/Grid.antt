@@ -1,0 +1,69 @@
+-- The cells of a text, as far as they are read.
+-- Assumes nothing.
+use Rattle.std.proofs.Common.{◌≡◌, ℕ, zero, suc, ◌+◌, ◌-◌, ◌<◌, ◌≤◌, true, false, List, length, get_or, refl, sym, ap, ◌∙◌, Ok, Err, arith}
+use borrow.Author.Tests.{ne_eqb, lt-ltb, le-ltb, lt-leb, le-leb}
+use Rattle.sudoku.specs.Tests.{pick, run}
+use Rattle.sudoku.proofs.Walks.{pick_false, run_more, run_all}
+use Rattle.puzzle.specs.Text.{cell_value}
+use Rattle.texts.specs.declared.Cells.{Cells}
+use Rattle.texts.specs.declared.CellsError.TheVariants.{Wrong, Many, Few}
+use Rattle.texts.specs.Grids.{is_space, so_far, no_cells, with_cell, with_character, cells_of, judged, grid_of}
+
+abbrev pub step : List ℕ → Cells → ℕ → Cells
+step text s i = with_character s (i + 1) (get_or text i 0)
+
+-- the text from a place on leads from what is found so far to what the whole text leads to
+abbrev pub Leads : List ℕ → List ℕ → ℕ → ℕ → Type 0
+Leads text cells count i = run (step text) no_cells (length text) 0 ≡ run (step text) (so_far cells count) (length text - i) i
+
+-- nothing after a wrong character counts
+stays : (text : List ℕ) (s : Cells) (i : ℕ) → (s.wrong ≡ 0 → ⊥) → step text s i ≡ s
+unfolding with_character
+stays text s i h = pick_false _ _ _ (ne_eqb s.wrong 0 h)
+
+run_wrong : (text : List ℕ) (s : Cells) (n i : ℕ) → (s.wrong ≡ 0 → ⊥) → run (step text) s n i ≡ s
+unfolding run
+run_wrong text s zero i h = refl
+run_wrong text s (suc n) i h = ap (λ (t : Cells). run (step text) t n (suc i)) (stays text s i h) ∙ run_wrong text s n (suc i) h
+
+module _ (text cells : List ℕ) (count i : ℕ) (leads : Leads text cells count i) where
+  module _ (below : i < length text) where
+    next : (s : Cells) → step text (so_far cells count) i ≡ s → run (step text) no_cells (length text) 0 ≡ run (step text) s (length text - (i + 1)) (i + 1)
+    next s e =
+        leads
+        ∙ run_more (step text) (so_far cells count) (length text) i below
+        ∙ ap (λ (t : Cells). run (step text) t (length text - (i + 1)) (i + 1)) e
+
+    pub by_space : is_space (get_or text i 0) ≡ true → Leads text cells count (i + 1)
+    unfolding with_character pick
+    by_space e = next (so_far cells count) (simp e)
+
+    pub by_cell : is_space (get_or text i 0) ≡ false → (value : ℕ) → value ≡ cell_value (get_or text i 0) → value ≤ 9 → (after : List ℕ) (m : ℕ) → so_far after m ≡ with_cell (so_far cells count) value → Leads text after m (i + 1)
+    unfolding with_character pick
+    by_cell e value v h after m w = next (so_far after m) (simp (e, sym v, le-leb _ _ h) (sym w))
+
+    pub by_wrong : is_space (get_or text i 0) ≡ false → (value : ℕ) → value ≡ cell_value (get_or text i 0) → 9 < value → Err (Wrong (i + 1)) ≡ grid_of text
+    unfolding with_character grid_of cells_of judged pick
+    by_wrong e value v h =
+        let s : Cells = record { cells = cells; count = count; wrong = i + 1 } in
+        let not_none : i + 1 ≡ 0 → ⊥ = λ e. omega arith in
+        sym
+        (ap judged (next s (simp (e, sym v, lt-leb _ _ h)) ∙ run_wrong text s (length text - (i + 1)) (i + 1) not_none)
+        ∙ pick_false _ _ _ (ne_eqb (i + 1) 0 not_none))
+
+  module _ (end : length text ≤ i) where
+    all : cells_of text ≡ so_far cells count
+    unfolding cells_of
+    all = leads ∙ run_all (step text) (so_far cells count) (length text) i end
+
+    pub by_few : count < 81 → Err (Few count) ≡ grid_of text
+    unfolding grid_of judged pick
+    by_few h = sym (ap judged all ∙ simp (lt-ltb _ _ h))
+
+    pub by_all : count ≡ 81 → Ok cells ≡ grid_of text
+    unfolding grid_of judged pick
+    by_all h = sym (ap judged all ∙ simp h)
+
+    pub by_many : 81 < count → Err Many ≡ grid_of text
+    unfolding grid_of judged pick
+    by_many h = sym (ap judged all ∙ simp (le-ltb count 81 (omega arith), ne_eqb count 81 (λ e. omega arith)))
