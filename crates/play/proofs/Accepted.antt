@@ -3,7 +3,7 @@
 -- Assumes nothing.
 use Prim.Native.Nat.{ℕ, ◌+◌, ◌-◌, ◌*◌, ◌≤◌, ◌<◌}
 use mathlib.Core.Path.{◌≡◌, sym, ap, ◌∙◌}
-use mathlib.Core.Bool.{Bool, true, false, not}
+use mathlib.Core.Bool.{Bool, true, false}
 use mathlib.Core.List.{List, [], ◌∷◌, ◌++◌}
 use native.Mathlib.Omega.{arith}
 use borrow.Author.Tests.{eqb-true, eqb-false, leb-true, leb-false, eq-eqb, ne_eqb, not-false}
@@ -23,8 +23,7 @@ use Rattle.board.specs.Open.{answer}
 use Rattle.play.specs.Play.{unsound_slot, journal_refusal, played, move_tests, call_tests, record_move, play_of, slot_refusal, undo_tests, undone, undo_of, redo_tests, redone, redo_of, latest_number, latest_part, next_number, next_part}
 use Rattle.play.specs.Check.{checked, check_tests, check_on, with_check, check_of}
 use Rattle.journal.specs.Slots.{slot_at, slot_part, slot_start}
-use Rattle.play.specs.Code.Parts.{or_number}
-use Rattle.play.proofs.Joined.{moves_numbered, joined, join_last}
+use Rattle.play.proofs.Joined.{moves_numbered, join_last}
 
 -- ---- the counts of a board value that number 2 does not refuse
 
@@ -77,17 +76,6 @@ module _ (fits : Bool) (b : Board) (journal : List ℕ) (n : ℕ) (e : n ≡ fir
   lent_counts p = board_counts b (not-false _ (passed _ 1 _ (passed _ 0 _ (sym e ∙ p)).1).0)
 
 -- ---- place, erase and the marks
-
--- the number of a call, found from those of what is lent and of the move
-pub call_number : (b : Board) (journal : List ℕ) (m : Move) {lent own : ℕ} → lent ≡ first (lent_tests (eqb (length journal) journal_bytes) b []) → own ≡ first (move_tests (state_of b) m)
-    → or_number lent (or_number own (first ((eqb b.standing max_moves ⇒ 15) ∷ []))) ≡ first (call_tests b journal m)
-unfolding call_tests lent_tests
-call_number b journal m e f =
-    let full : List Test = (eqb b.standing max_moves ⇒ 15) ∷ [] in
-    let two : List Test = (not (eqb (length journal) journal_bytes) ⇒ 1) ∷ (not (is_board b) ⇒ 2) ∷ [] in
-    (λ i. or_number (e i) (or_number (f i) (first full)))
-    ∙ ap (λ (n : ℕ). or_number (first two) n) (joined (move_tests (state_of b) m) full (moves_numbered (state_of b) m))
-    ∙ joined two (move_tests (state_of b) m ++ full) (omega arith, (omega arith, tt))
 
 module _ (b : Board) (journal : List ℕ) (m : Move) (n : ℕ) (e : n ≡ first (call_tests b journal m)) where
   pub play_refused : (n ≡ 0 → ⊥) → played (refusal n 0 0) b journal ≡ play_of b journal m
@@ -176,15 +164,7 @@ module _ (b : Board) (checks : List ℕ) (row column n : ℕ) (e : n ≡ first (
 
 -- ---- the latest and the next move
 
--- the part from eight bytes before the end of n slots, and the eight bytes behind them
-pub part_latest : (journal : List ℕ) (n : ℕ) → 1 ≤ n
-    → take (slot_bytes * n - (slot_bytes * n - slot_bytes)) (drop (slot_bytes * n - slot_bytes) journal) ≡ slot_part journal n
-unfolding slot_part part slot_start
-part_latest journal n h =
-    let size : slot_bytes * n - (slot_bytes * n - slot_bytes) ≡ slot_bytes = omega arith in
-    let start : slot_bytes * n - slot_bytes ≡ slot_bytes * (n - 1) = omega arith in
-    λ i. take (size i) (drop (start i) journal)
-
+-- the eight bytes behind n slots
 pub part_next : (journal : List ℕ) (n : ℕ) → take (slot_bytes * n + slot_bytes - slot_bytes * n) (drop (slot_bytes * n) journal) ≡ slot_part journal (n + 1)
 unfolding slot_part part slot_start
 part_next journal n =

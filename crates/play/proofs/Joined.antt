@@ -1,25 +1,16 @@
--- Laws for the number of a call that is found in two steps: where the
--- first tests refuse, they decide, and where they pass, the others do.
+-- Laws for the tests of a call that come after others: each has a number, and what passes them all passes the last ones.
 -- Assumes nothing.
 use Prim.Native.Nat.{ℕ, ◌≤◌}
 use mathlib.Core.Path.{◌≡◌, refl, sym, ◌∙◌}
 use mathlib.Core.Bool.{Bool, true, false}
 use mathlib.Core.List.{List, [], ◌∷◌, ◌++◌}
 use native.Mathlib.Omega.{arith}
-use lib.Dec.{eqb}
-use borrow.Author.Tests.{eqb-true, eqb-false}
 use Rattle.sudoku.specs.Tests.{Test, ◌⇒◌, first, pick}
-use Rattle.sudoku.proofs.Walks.{by_test, pick_true, pick_false}
 use Rattle.journal.specs.declared.Move.{Move}
 use Rattle.journal.specs.declared.Move.TheVariants.{Place, Erase, WriteMark, StrikeMark}
 use Rattle.journal.specs.State.{State}
-use Rattle.play.specs.Code.Parts.{or_number}
+use Rattle.board.proofs.Told.{Numbered}
 use Rattle.play.specs.Play.{move_tests}
-
--- no test of the list has the number 0, which says that nothing is refused
-abbrev pub Numbered : List Test → Type 0
-Numbered [] = Unit
-Numbered (t ∷ ts) = (1 ≤ t.number) × Numbered ts
 
 pub moves_numbered : (s : State) (m : Move) → Numbered (move_tests s m)
 unfolding move_tests
@@ -27,6 +18,16 @@ moves_numbered s (Place row column digit) = (omega arith, (omega arith, (omega a
 moves_numbered s (Erase row column) = (omega arith, (omega arith, (omega arith, tt)))
 moves_numbered s (WriteMark row column digit) = (omega arith, (omega arith, (omega arith, (omega arith, (omega arith, tt)))))
 moves_numbered s (StrikeMark row column digit) = (omega arith, (omega arith, (omega arith, (omega arith, tt))))
+
+step_last : (t : Bool) (n x z : ℕ) → 1 ≤ n → pick t n x ≡ 0 → (x ≡ 0 → z ≡ 0) → z ≡ 0
+unfolding pick
+step_last true n x z l p e = absurd (omega arith)
+step_last false n x z l p e = e p
+
+pub join_last : (ts us : List Test) → Numbered ts → first (ts ++ us) ≡ 0 → first us ≡ 0
+unfolding first
+join_last [] us q p = p
+join_last (t ∷ ts) us q p = step_last t.holds t.number (first (ts ++ us)) (first us) q.0 p (join_last ts us q.1)
 
 -- ---- one test in front
 
@@ -40,11 +41,6 @@ unfolding pick
 step_passed true n x y z l p e = absurd (omega arith)
 step_passed false n x y z l p e = e p
 
-step_last : (t : Bool) (n x z : ℕ) → 1 ≤ n → pick t n x ≡ 0 → (x ≡ 0 → z ≡ 0) → z ≡ 0
-unfolding pick
-step_last true n x z l p e = absurd (omega arith)
-step_last false n x z l p e = e p
-
 -- ---- a list of tests in front
 
 pub join_refused : (ts us : List Test) → (first ts ≡ 0 → ⊥) → first (ts ++ us) ≡ first ts
@@ -57,20 +53,6 @@ unfolding first
 join_passed [] us q p = refl
 join_passed (t ∷ ts) us q p =
     step_passed t.holds t.number (first (ts ++ us)) (first ts) (first us) q.0 p (join_passed ts us q.1)
-
--- so the number of a joined list is that of its first part, and where that is 0, of its second
-pub joined : (ts us : List Test) → Numbered ts → or_number (first ts) (first us) ≡ first (ts ++ us)
-unfolding or_number
-joined ts us q =
-    by_test (eqb (first ts) 0)
-    (λ t. pick_true (eqb (first ts) 0) (first us) (first ts) t ∙ sym (join_passed ts us q (eqb-true (first ts) 0 t)))
-    (λ t. pick_false (eqb (first ts) 0) (first us) (first ts) t ∙ sym (join_refused ts us (eqb-false (first ts) 0 t)))
-
--- what passes a joined list passes its second part
-pub join_last : (ts us : List Test) → Numbered ts → first (ts ++ us) ≡ 0 → first us ≡ 0
-unfolding first
-join_last [] us q p = p
-join_last (t ∷ ts) us q p = step_last t.holds t.number (first (ts ++ us)) (first us) q.0 p (join_last ts us q.1)
 
 -- ---- two tests in front, whose number n a function of their own found
 

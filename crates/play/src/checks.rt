@@ -1,43 +1,38 @@
 // The check: whether the digit at a cell is the solution's, stored with the count of moves that stood.
-ghost use Rattle.std.specs.Prelude.{◌≡◌, [], ◌∷◌, not, eqb};
-ghost use Rattle.puzzle.specs.Givens.{is_on};
-ghost use Rattle.sudoku.specs.Tests.{◌⇒◌, first};
-ghost use Rattle.sudoku.specs.Grid.{cell_of, on_grid};
-ghost use Rattle.journal.specs.Limits.{max_checks, check_memory};
-ghost use Rattle.journal.specs.State.{holds_players_digit};
-ghost use Rattle.board.specs.Board.{state_of, lent_tests};
-ghost use Rattle.play.specs.Check.{check_of};
+ghost use Rattle.std.specs.Prelude.{◌≡◌};
+ghost use Rattle.sudoku.specs.Tests.{first};
+ghost use Rattle.board.specs.Errors.{number_told};
+ghost use Rattle.play.specs.Check.{check_tests, check_of};
 
 use board::cell::holds_players_digit;
-use board::value::lent_number;
+use board::error::PlayError;
+use board::value::lent;
 use board::{Board, Checked};
 use journal::checks::store_check;
 use journal::{Asked, CHECK_MEMORY, MAX_CHECKS};
-use puzzle::answer::{accepted, refusal};
+use puzzle::answer::accepted;
 use puzzle::digit_at;
 use sudoku::{cell_of, on_grid};
 
 // 1 2 3 4 6 16.
-fn check_number(board: Board, length: usize, row: u8, column: u8) -> u8
-    ensures { result ≡ first (lent_tests (eqb length check_memory) board ((not (on_grid row column) ⇒ 3) ∷ (is_on board.solved ⇒ 4) ∷ (not (holds_players_digit (state_of board) (cell_of row column)) ⇒ 6) ∷ (eqb board.checks max_checks ⇒ 16) ∷ [])) }
+#[tactic(auto, unfolding(sudoku::specs::Tests::first, sudoku::specs::Tests::pick, board::specs::Board::lent_tests, board::specs::Board::state_of, journal::specs::State::holds_players_digit, crate::specs::Check::check_tests))]
+fn check_test(board: Board, checks: &[u8], row: u8, column: u8) -> Result<(), PlayError>
+    ensures { number_told result ≡ first (check_tests board checks.now row column) }
 {
-    let lent = lent_number(board, length == CHECK_MEMORY);
-    if lent != 0 {
-        return lent;
-    }
+    lent(board, checks.len() == CHECK_MEMORY)?;
     if !on_grid(row, column) {
-        return 3;
+        return Err(PlayError::NoSuchCell);
     }
     if board.solved != 0 {
-        return 4;
+        return Err(PlayError::Solved);
     }
     if !holds_players_digit(&board.digits, &board.given, cell_of(row, column)) {
-        return 6;
+        return Err(PlayError::NoPlayersDigit);
     }
     if board.checks == MAX_CHECKS {
-        return 16;
+        return Err(PlayError::ChecksFull);
     }
-    0
+    Ok(())
 }
 
 // Asks whether the digit at a cell is the solution's, and stores the check behind the others. Refused by 1 2 3 4 6 16.
@@ -47,17 +42,16 @@ pub fn check(board: Board, checks: &mut [u8], row: u8, column: u8) -> Checked
     let mut answer = Checked {
         refusal: accepted(),
         right: false,
-        board: board,
+        board,
     };
-    let n = check_number(board, checks.len(), row, column);
-    if n != 0 {
-        answer.refusal = refusal(n, 0, 0);
+    if let Err(e) = check_test(board, checks, row, column) {
+        answer.refusal = e.into();
         return answer;
     }
     let asked = Asked {
         standing: board.standing,
-        row: row,
-        column: column,
+        row,
+        column,
         digit: digit_at(&answer.board.digits, cell_of(row, column)),
     };
     answer.right = store_check(checks, board.checks, &answer.board.solution, asked);

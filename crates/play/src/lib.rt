@@ -9,3 +9,4 @@ pub mod moves;
 pub mod numbers;
 pub mod shown;
 pub mod sound;
+pub mod tests;

@@ -10,14 +10,13 @@ ghost use Rattle.journal.specs.Slots.{slot_for, plain_slot, bytes_of};
 ghost use Rattle.play.specs.Code.Parts.{parts};
 ghost use Rattle.play.specs.Play.{play_of, place_of, erase_of, write_mark_of, strike_mark_of};
 
-use crate::numbers::{call_number, move_number};
-use board::value::lent_number;
+use crate::tests::call_test;
 use board::{Answer, Board};
 use journal::notes::{holders, strike_all_in, strike_in, write_in};
 use journal::slots::write_slot;
 use journal::steps::after_record;
-use journal::{Counts, ERASE, JOURNAL_BYTES, Move, PLACE, STRIKE_MARK, Slot, WRITE_MARK};
-use puzzle::answer::{accepted, refusal};
+use journal::{Counts, ERASE, Move, PLACE, STRIKE_MARK, Slot, WRITE_MARK};
+use puzzle::answer::accepted;
 use puzzle::{digit_at, index_of, settled};
 use sudoku::{cell_of, peers};
 
@@ -126,17 +125,8 @@ pub fn play(board: Board, journal: &mut [u8], m: Move) -> Answer
         refusal: accepted(),
         board: board,
     };
-    let lent = lent_number(board, journal.len() == JOURNAL_BYTES);
-    let own = move_number(
-        &answer.board.digits,
-        &answer.board.given,
-        &answer.board.notes,
-        board.solved,
-        m,
-    );
-    let n = call_number(lent, own, board.standing);
-    if n != 0 {
-        answer.refusal = refusal(n, 0, 0);
+    if let Err(e) = call_test(board, journal, m) {
+        answer.refusal = e.into();
         return answer;
     }
     let slot = slot_of(&answer.board.digits, &answer.board.notes, m);

@@ -21,7 +21,8 @@ use Rattle.board.specs.Board.{state_of, lent_tests}
 use Rattle.board.specs.Open.{answer}
 use Rattle.board.proofs.Numbers.{last_if}
 use Rattle.play.specs.Play.{undo_before, redo_before, slot_refusal, can_take_back, can_retake, undo_tests, undo_of, redo_tests, redo_of}
-use Rattle.play.proofs.Joined.{Numbered, join_refused, join_passed}
+use Rattle.board.proofs.Told.{Numbered}
+use Rattle.play.proofs.Joined.{join_refused, join_passed}
 use Rattle.play.proofs.Accepted.{slot_plain, slot_14, undo_refused, redo_refused}
 use Rattle.undo.specs.Code.Halves.{digit_left, digit_found, marks_left, marks_found}
 use Rattle.undo.proofs.Parts.{left_parts, found_parts}

@@ -1,0 +1,30 @@
+-- `play::tests::call_test` meets its contract: what is lent, the move, and the room in the journal, in this order.
+-- Assumes nothing.
+use mathlib.Core.Path.{sym, ◌∙◌}
+use borrow.Author.Tests.{eq-eqb, ne_eqb}
+use Rattle.sudoku.proofs.Walks.{refused}
+use Rattle.board.specs.Board.{state_of}
+use Rattle.board.proofs.Numbers.{last_if}
+use Rattle.board.proofs.Told.{told_by, lent_err, lent_ok, told_err, told_ok}
+use Rattle.play.specs.Play.{call_tests}
+use Rattle.play.proofs.Joined.{moves_numbered}
+use Rattle.play.proofs.tests.call_test.Goals as goal
+
+pub returns-in_err-lent : goal.returns-in_err-lent
+unfolding call_tests
+returns-in_err-lent c = told_by _ _ _ c.from_residual.ensures.1 (lent_err _ _ _ _ c.in_err-lent.ensures)
+
+pub returns-in_err-move_test : goal.returns-in_err-move_test
+unfolding call_tests state_of
+returns-in_err-move_test c =
+    told_by _ _ _ c.from_residual-in_err-move_test.ensures.1 (told_err _ _ _ c.in_err-move_test.ensures ∙ sym (lent_ok _ _ _ c.in_ok-lent.ensures))
+
+pub returns-then-board-eq-MAX_MOVES : goal.returns-then-board-eq-MAX_MOVES
+unfolding call_tests state_of
+returns-then-board-eq-MAX_MOVES c =
+    sym (lent_ok _ _ _ c.in_ok-lent.ensures ∙ told_ok _ _ (moves_numbered (state_of c.args.board) c.args.m) c.in_ok-move_test.ensures ∙ refused _ 15 _ (eq-eqb _ _ c.if-board-eq-MAX_MOVES.true))
+
+pub returns : goal.returns
+unfolding call_tests state_of
+returns c =
+    sym (lent_ok _ _ _ c.in_ok-lent.ensures ∙ told_ok _ _ (moves_numbered (state_of c.args.board) c.args.m) c.in_ok-move_test.ensures ∙ last_if _ 15 (ne_eqb _ _ c.if-board-eq-MAX_MOVES.false))
