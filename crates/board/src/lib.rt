@@ -12,7 +12,7 @@ pub mod value;
 // A board by value, with flat arrays of 81 and open fields. It goes into a call and comes back in its answer.
 // Its flags are bytes, so that a host passes it as it is: number 2 speaks of flags other than 0 and 1.
 #[repr(C)]
-#[derive(Clone, Copy)]
+#[derive(Clone, Copy, PartialEq, Eq)]
 pub struct Board {
     // 0 means none
     pub digits: [u8; 81],
@@ -29,7 +29,7 @@ pub struct Board {
 
 // What a call that changes the board answers.
 #[repr(C)]
-#[derive(Clone, Copy)]
+#[derive(Clone, Copy, PartialEq, Eq)]
 pub struct Answer {
     pub refusal: Refusal,
     pub board: Board,
@@ -37,7 +37,7 @@ pub struct Answer {
 
 // What a check answers: whether the digit is the solution's; false beside a refusal.
 #[repr(C)]
-#[derive(Clone, Copy)]
+#[derive(Clone, Copy, PartialEq, Eq)]
 pub struct Checked {
     pub refusal: Refusal,
     pub right: bool,

@@ -20,6 +20,7 @@ fn greatest_flag(digit: u8) -> u8
 }
 
 // A cell's digit and flag, and the solution's digit. Each test is made, whatever the others say.
+#[tactic(auto, unfolding(crate::specs::Board::may_stand, sudoku::specs::Tests::both, sudoku::specs::Tests::pick))]
 fn cell_value(digit: u8, given: u8, right: u8) -> bool
     ensures { result ≡ both (may_stand digit given) (in_range right) }
 {
