@@ -2,7 +2,7 @@
 -- the keypad. Each has number 2 first, a position 3, a key 8.
 -- What stands beside a refusal is 0 or false.
 -- Assumes nothing.
-use Rattle.std.specs.Prelude.{ℕ, Bool, false, not, [], ◌∷◌, ltb, eqb}
+use Rattle.std.specs.Prelude.{ℕ, Bool, false, not, [], ◌∷◌, ltb, eqb, Result, Ok, Err}
 use Rattle.puzzle.specs.Givens.{is_on, is_given}
 use Rattle.sudoku.specs.Tests.{◌⇒◌, first, pick, both}
 use Rattle.sudoku.specs.Grid.{in_range, on_grid, cell_of}
@@ -10,6 +10,8 @@ use Rattle.puzzle.specs.Refusals.{refusal, accepted}
 use Rattle.puzzle.specs.Puzzle.{conflicts, is_full, is_consistent, digits_left}
 use Rattle.journal.specs.State.{State, digit_at, note_at, holds_players_digit, accepts_marks}
 use Rattle.board.specs.declared.Board.{Board}
+use Rattle.board.specs.declared.error.PlayError.{PlayError}
+use Rattle.board.specs.Errors.{play_number}
 use Rattle.questions.specs.declared.CellAnswer.{CellAnswer}
 use Rattle.questions.specs.declared.YesNo.{YesNo}
 use Rattle.questions.specs.declared.Left.{Left}
@@ -25,6 +27,11 @@ cell_number b row column = first ((not (is_board b) ⇒ 2) ∷ (not (on_grid row
 -- the answer to a question of yes or no: no beside a refusal
 unfoldable pub yes_no : ℕ → Bool → YesNo
 yes_no n holds = record { refusal = refusal n 0 0; holds = both (eqb n 0) holds }
+
+-- the same of a test that answers the question where it refuses nothing
+abbrev pub answered : Result Bool PlayError → YesNo
+answered (Ok holds) = yes_no 0 holds
+answered (Err e) = yes_no (play_number e) false
 
 -- the question for one cell: its digit, whether it is a given,
 -- whether it conflicts, its kept note and whether that is shown.

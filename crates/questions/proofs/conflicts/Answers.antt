@@ -1,8 +1,11 @@
 -- `questions::conflicts` meets its contract.
 -- Assumes nothing.
+use Rattle.std.proofs.Common.{rules}
+use mathlib.Core.Path.{◌∙◌}
 use Rattle.questions.specs.Questions.{conflicts_question}
+use Rattle.questions.proofs.Asked.{asked}
 use Rattle.questions.proofs.conflicts.Goals as goal
 
 pub returns : goal.returns
 unfolding conflicts_question
-returns c = rw (c.yes_no.ensures, c.cell_number-number.ensures, c.conflicts.ensures, c.cell_of.ensures.0)
+returns c = c.yes_no.ensures ∙ asked _ _ _ _ _ c.cell_test-test.ensures c.map.ensures.cases (λ r l. search rules)

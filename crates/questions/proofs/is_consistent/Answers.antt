@@ -1,8 +1,11 @@
 -- `questions::is_consistent` meets its contract.
 -- Assumes nothing.
+use Rattle.std.proofs.Common.{rules}
+use mathlib.Core.Path.{◌∙◌}
 use Rattle.questions.specs.Questions.{consistent_question}
+use Rattle.questions.proofs.Asked.{asked}
 use Rattle.questions.proofs.is_consistent.Goals as goal
 
 pub returns : goal.returns
 unfolding consistent_question
-returns c = rw (c.yes_no.ensures, c.board_number-number.ensures, c.is_consistent.ensures)
+returns c = c.yes_no.ensures ∙ asked _ _ _ _ _ c.board_test.ensures c.map.ensures.cases (λ r l. search rules)
