@@ -3,7 +3,11 @@
 // each function says on standard output what went wrong.
 #![tactic(auto)]
 
+ghost use Rattle.std.specs.Prelude.{◌≡◌};
+ghost use Rattle.files.specs.Memory.{fresh_memory};
+
 use board::Board;
+use journal::{CHECK_MEMORY, JOURNAL_BYTES};
 
 pub mod arguments;
 pub mod disk;
@@ -21,4 +25,24 @@ pub struct Got {
 pub struct Loaded {
     pub good: bool,
     pub board: Board,
+}
+
+// The memory that is lent to a board: its journal and its checks.
+#[derive(Clone, Copy)]
+pub struct Memory {
+    pub journal: [u8; JOURNAL_BYTES],
+    pub checks: [u8; CHECK_MEMORY],
+}
+
+impl Memory {
+    // Memory of zeros, as a board is opened in.
+    #[tactic(auto, unfolding(board::specs::Open::no_moves, board::specs::Open::no_checks))]
+    pub fn new() -> Memory
+        ensures { result ≡ fresh_memory }
+    {
+        Memory {
+            journal: [0u8; JOURNAL_BYTES],
+            checks: [0u8; CHECK_MEMORY],
+        }
+    }
 }
