@@ -11,17 +11,17 @@ use native.Mathlib.Omega.{arith}
 use borrow.Author.Tests.{eqb-true, eqb-false}
 use lib.Bits.{bit_and, bit_or, and_zero_r, or_zero_r}
 use lib.Dec.{eqb}
-use lib.ListN.{length, get_or, set, drop, length-drop, get_or-eq_default}
+use lib.ListN.{length, get_or, drop, length-drop}
 use lib.Pow.{pow_mono}
 use lib.Seq.{drop-cons, set-get_or}
 use Rattle.sudoku.specs.Tests.{pick, both, either, bit}
-use Rattle.sudoku.specs.Grid.{at}
-use Rattle.sudoku.proofs.Grid.{eqb_comm}
-use Rattle.sudoku.proofs.Walks.{by_test, both_second, either_right}
+use Rattle.sudoku.specs.Grid.{at, put}
+use Rattle.sudoku.proofs.Walks.{by_test, both_second}
 use Rattle.note.specs.Note.{contains, with_mark, without, power_of}
-use Rattle.note.proofs.Note.{or_power, less_power, power_tests, power_there, contains_zero}
-use Rattle.journal.specs.State.{write_at, strike_at, strike_all, holders, lowest, strike_masked, write_masked}
+use Rattle.note.proofs.Note.{or_power, less_power, power_tests, power_there}
+use Rattle.journal.specs.State.{strike_at, strike_all, holders, lowest}
 use Rattle.journal.specs.Code.InTurn.{in_turn, lacks, not_missing}
+use Rattle.journal.specs.Code.Marks.{MarkLaws}
 use Rattle.journal.proofs.NoteCells.{holders_small}
 
 -- ---- what is left of the list
@@ -41,16 +41,6 @@ module _ (cells : List ℕ) (i : ℕ) (h : i < length cells) where
   pub strike_all_turn : (notes : List ℕ) (d : ℕ) → strike_all notes d (drop i cells) ≡ strike_all (strike_at notes (get_or cells i 0) d) d (drop (i + 1) cells)
   unfolding strike_all
   strike_all_turn notes d = rw (cells_left cells i h)
-
-  pub strike_masked_turn : (notes : List ℕ) (d mask : ℕ)
-      → strike_masked notes d mask (drop i cells) ≡ strike_masked (pick (lowest mask) (strike_at notes (get_or cells i 0) d) notes) d (mask / 2) (drop (i + 1) cells)
-  unfolding strike_masked
-  strike_masked_turn notes d mask = rw (cells_left cells i h)
-
-  pub write_masked_turn : (notes : List ℕ) (d mask : ℕ)
-      → write_masked notes d mask (drop i cells) ≡ write_masked (pick (lowest mask) (write_at notes (get_or cells i 0) d) notes) d (mask / 2) (drop (i + 1) cells)
-  unfolding write_masked
-  write_masked_turn notes d mask = rw (cells_left cells i h)
 
   -- what was found so far, and the test of this cell where its bit is set in the mask
   pub in_turn_step : (change : List ℕ → ℕ → List ℕ) (test : ℕ → Bool) (notes after : List ℕ) (mask : ℕ) (ok r : Bool)
@@ -76,14 +66,6 @@ module _ (cells : List ℕ) (i : ℕ) (h : length cells ≤ i) where
   unfolding strike_all
   strike_all_end notes d = rw (drop_past cells i h)
 
-  pub strike_masked_end : (notes : List ℕ) (d mask : ℕ) → strike_masked notes d mask (drop i cells) ≡ notes
-  unfolding strike_masked
-  strike_masked_end notes d mask = rw (drop_past cells i h)
-
-  pub write_masked_end : (notes : List ℕ) (d mask : ℕ) → write_masked notes d mask (drop i cells) ≡ notes
-  unfolding write_masked
-  write_masked_end notes d mask = rw (drop_past cells i h)
-
   pub in_turn_end : (change : List ℕ → ℕ → List ℕ) (test : ℕ → Bool) (notes : List ℕ) (mask : ℕ) (ok : Bool)
       → both ok (in_turn change test notes mask (drop i cells)) ≡ ok
   unfolding in_turn
@@ -93,6 +75,27 @@ module _ (cells : List ℕ) (i : ℕ) (h : length cells ≤ i) where
   pub holders_end : (notes : List ℕ) (d : ℕ) → holders notes d (drop i cells) ≡ 0
   unfolding holders
   holders_end notes d = rw (drop_past cells i h)
+
+-- ---- the two changes of a mark, by their laws
+
+module _ {after : ℕ → ℕ → ℕ} {fits : ℕ → ℕ → Bool} {at_cell : List ℕ → ℕ → ℕ → List ℕ} {masked : List ℕ → ℕ → ℕ → List ℕ → List ℕ} {fits_each : List ℕ → ℕ → ℕ → List ℕ → Bool}
+    (laws : MarkLaws after fits at_cell masked fits_each) (cells : List ℕ) (i : ℕ) where
+  pub masked_turn : i < length cells → (notes : List ℕ) (d mask : ℕ)
+      → masked notes d mask (drop i cells) ≡ masked (pick (lowest mask) (at_cell notes (get_or cells i 0) d) notes) d (mask / 2) (drop (i + 1) cells)
+  masked_turn h notes d mask = rw (cells_left cells i h) (laws.more notes d mask _ _)
+
+  pub masked_end : length cells ≤ i → (notes : List ℕ) (d mask : ℕ) → masked notes d mask (drop i cells) ≡ notes
+  masked_end h notes d mask = rw (drop_past cells i h) (laws.none notes d mask)
+
+  pub fits_turn : i < length cells → (notes next : List ℕ) (d mask : ℕ) (ok r : Bool)
+      → r ≡ either (not (lowest mask)) (fits d (at notes (get_or cells i 0))) → next ≡ pick (lowest mask) (at_cell notes (get_or cells i 0) d) notes
+      → both ok (fits_each notes d mask (drop i cells)) ≡ both (ok && r) (fits_each next d (mask / 2) (drop (i + 1) cells))
+  fits_turn h notes next d mask ok r e q =
+      rw (laws.each notes d mask (drop i cells), laws.each next d (mask / 2) (drop (i + 1) cells))
+      (in_turn_step cells i h (λ l cell. at_cell l cell d) (fits d) notes next mask ok r e q)
+
+  pub fits_end : length cells ≤ i → (notes : List ℕ) (d mask : ℕ) (ok : Bool) → both ok (fits_each notes d mask (drop i cells)) ≡ ok
+  fits_end h notes d mask ok = rw (laws.each notes d mask (drop i cells)) (in_turn_end cells i h (λ l cell. at_cell l cell d) (fits d) notes mask ok)
 
 -- ---- a note changed, and tested, by the lowest bit of a mask and without a test of that bit
 
@@ -127,30 +130,11 @@ module _ (n d : ℕ) where
   has_mark true = power_there n d
   has_mark false = ap (λ (k : ℕ). eqb k 0) (and_zero_r n)
 
--- beyond the list there is no note, no mark stands in it, and none is missing where none is asked for
-at_past : (notes : List ℕ) (cell : ℕ) → length notes ≤ cell - 1 → at notes cell ≡ 0
-unfolding at
-at_past notes cell h = get_or-eq_default notes 0 h
-
-pub lacks_past : (notes : List ℕ) (cell d : ℕ) (b : Bool) → length notes ≤ cell - 1 → true ≡ either (not b) (lacks d (at notes cell))
-unfolding lacks
-lacks_past notes cell d b h = rw (at_past notes cell h, contains_zero d) (sym (either_right (not b) true refl))
-
-pub has_past : (notes : List ℕ) (cell d : ℕ) (b : Bool) → length notes ≤ cell - 1
-    → eqb (pick b (power_of d) 0) 0 ≡ either (not b) (not_missing d (at notes cell))
-has_past notes cell d b h = rw (at_past notes cell h) (eqb_comm (pick b (power_of d) 0) 0 ∙ has_mark 0 d b)
-
 -- what a cell's note becomes is stored: where it stays, the list does
-pub set_pick : (t : Bool) (l : List ℕ) (k x : ℕ) → pick t (set l k x) l ≡ set l k (pick t x (get_or l k 0))
-unfolding pick
-set_pick true l k x = refl
-set_pick false l k x = sym (set-get_or l k 0)
-
--- where a change changes nothing it does not matter whether it is made
-pub pick_same : (t : Bool) (l m : List ℕ) → l ≡ m → pick t l m ≡ m
-unfolding pick
-pick_same true l m h = h
-pick_same false l m h = refl
+pub put_pick : (t : Bool) (notes : List ℕ) (cell x : ℕ) → pick t (put notes cell x) notes ≡ put notes cell (pick t x (at notes cell))
+unfolding pick put at
+put_pick true notes cell x = refl
+put_pick false notes cell x = sym (set-get_or notes (cell - 1) 0)
 
 -- ---- the mask of what is left of twenty cells fits twenty bits
 

@@ -1,2 +1,3 @@
 pub mod InTurn
 pub mod Laid
+pub mod Marks

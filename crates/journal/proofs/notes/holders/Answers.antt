@@ -10,20 +10,18 @@ use Rattle.journal.proofs.notes.holders.Goals as goal
 pub loop-i-init : goal.loop-i-init
 loop-i-init c =
     let twenty : length c.args.cells ≡ 20 = search rules in
-    (omega arith, sym (holders_end c.args.cells 20 (rw twenty (omega arith)) _ _))
+    sym (holders_end c.args.cells 20 (rw twenty (omega arith)) _ _)
 
 pub with_bit-mask-requires : goal.with_bit-mask-requires
-with_bit-mask-requires c = rw c.loop-i.invariant.1 (holders_fit _ c.args.cells _ c.loop-i.i (search rules))
+with_bit-mask-requires c = rw c.loop-i.invariant (holders_fit _ c.args.cells _ c.loop-i.i (search rules))
 
 pub loop-i-preserved : goal.loop-i-preserved
-loop-i-preserved c = (
-  omega arith,
-  rw (c.with_bit-mask.ensures, c.note_at.ensures, c.wide.ensures.0)
-      (holders_turn _ c.args.cells _ c.loop-i.i _ (search rules) c.loop-i-test.true c.loop-i.invariant.0 c.loop-i.invariant.1),
-)
+loop-i-preserved c =
+    rw (c.with_bit-mask.ensures, c.note_at.ensures, c.from.ensures)
+    (holders_turn _ c.args.cells _ c.loop-i.i _ (search rules) c.loop-i-test.true (omega arith) c.loop-i.invariant)
 
 pub returns : goal.returns
 returns c =
     let z : c.loop-i.i ≡ 0 = omega arith in
-    let e = c.loop-i.invariant.1 in
+    let e = c.loop-i.invariant in
     (e ∙ rw z, rw e (holders_fit _ c.args.cells _ c.loop-i.i (search rules)))

@@ -7,15 +7,15 @@ use Rattle.journal.proofs.CellLoops.{strike_all_turn, strike_all_end}
 use borrow.Author.Rules.{rules}
 use Rattle.journal.proofs.notes.strike_all_in.Goals as goal
 
-pub loop-i-init : goal.loop-i-init
-loop-i-init c = refl
+pub loop-cell-init : goal.loop-cell-init
+loop-cell-init c = refl
 
-pub loop-i-preserved : goal.loop-i-preserved
-loop-i-preserved c =
+pub loop-cell-preserved : goal.loop-cell-preserved
+loop-cell-preserved c =
     let twenty : length c.args.cells ≡ 20 = search rules in
-    c.loop-i.invariant ∙ strike_all_turn c.args.cells c.loop-i.i (rw twenty c.loop-i-test.true) _ _ ∙ rw (c.strike_in.ensures, c.wide.ensures.0)
+    c.loop-cell.invariant ∙ strike_all_turn c.args.cells c.loop-cell.cell-index (rw twenty c.loop-cell-test.true) _ _ ∙ rw (c.change_in.ensures, c.from.ensures)
 
 pub returns : goal.returns
 returns c =
     let twenty : length c.args.cells ≡ 20 = search rules in
-    sym (c.loop-i.invariant ∙ strike_all_end c.args.cells c.loop-i.i (rw twenty c.loop-i-test.false) _ _)
+    sym (c.loop-cell.invariant ∙ strike_all_end c.args.cells c.loop-cell.cell-index (rw twenty c.loop-cell-test.false) _ _)
