@@ -5,34 +5,33 @@ use mathlib.Core.Path.{◌≡◌, refl, sym, ap, ◌∙◌}
 use mathlib.Core.List.{List, [], ◌∷◌, ◌++◌, map}
 use native.Mathlib.Omega.{arith}
 use lib.ListN.{length, get_or, length-map}
+use Rattle.std.specs.Prelude.{Option, Some}
 use Rattle.sudoku.specs.Tests.{pick, listed}
 use Rattle.sudoku.proofs.Listed.{length_listed}
 use Rattle.journal.specs.declared.Move.TheVariants.{Place, Erase, WriteMark, StrikeMark}
 use Rattle.journal.specs.Bytes.{over}
 use Rattle.calls.specs.declared.Call.{Call}
 use Rattle.calls.specs.declared.Call.TheVariants.{Make, Undo, Redo, Check}
-use Rattle.calls.specs.declared.Decoded.{Decoded}
-use Rattle.calls.specs.declared.Decoded.TheVariants.{Of}
 use Rattle.calls.specs.Session.{Session, call_of, after, answers}
 use Rattle.calls.specs.Encoded.{call_bytes, call_place, call_erase, call_write_mark, call_strike_mark, call_undo, call_check, call_redo, decode, decode_other, decode_at, decoded, encode, encoded, groups, run_one, left_by, said_to, answers_bytes, ran, run_from, run_of}
 
 -- ---- groups that are all calls
 
-left_calls : (s : Session) (cs : List Call) → left_by s (map Of cs) ≡ after s cs
+left_calls : (s : Session) (cs : List Call) → left_by s (map Some cs) ≡ after s cs
 unfolding left_by run_one after
 left_calls s [] = refl
 left_calls s (c ∷ cs) = left_calls (call_of s c).left cs
 
-said_calls : (s : Session) (cs : List Call) → said_to s (map Of cs) ≡ answers s cs
+said_calls : (s : Session) (cs : List Call) → said_to s (map Some cs) ≡ answers s cs
 unfolding said_to run_one answers
 said_calls s [] = refl
 said_calls s (c ∷ cs) = λ i. (call_of s c).said ∷ said_calls (call_of s c).left cs i
 
-module _ (s : Session) (bytes room : List ℕ) (cs : List Call) (p : decoded bytes ≡ map Of cs) (h : call_bytes * length cs ≤ length room) where
+module _ (s : Session) (bytes room : List ℕ) (cs : List Call) (p : decoded bytes ≡ map Some cs) (h : call_bytes * length cs ≤ length room) where
   as_many : length bytes / call_bytes ≡ length cs
   unfolding decoded
   as_many =
-      sym (length_listed (decode_at bytes) (length bytes / call_bytes) 0) ∙ ap (λ (l : List Decoded). length l) p ∙ length-map cs Of
+      sym (length_listed (decode_at bytes) (length bytes / call_bytes) 0) ∙ ap (λ (l : List (Option Call)). length l) p ∙ length-map cs Some
 
   all_groups : groups (length bytes) (length room) ≡ length bytes / call_bytes
   unfolding groups
@@ -42,7 +41,7 @@ module _ (s : Session) (bytes room : List ℕ) (cs : List Call) (p : decoded byt
   unfolding run_of run_from decoded
   run_calls =
       ap (λ (n : ℕ). run_from bytes s room n 0) all_groups
-      ∙ ap (λ (ds : List Decoded). ran (left_by s ds) (over room 0 (answers_bytes (said_to s ds)))) p
+      ∙ ap (λ (ds : List (Option Call)). ran (left_by s ds) (over room 0 (answers_bytes (said_to s ds)))) p
       ∙ (λ i. ran (left_calls s cs i) (over room 0 (answers_bytes (said_calls s cs i))))
 
 -- ---- the bytes of a list of calls
@@ -76,7 +75,7 @@ encode_length (Redo ∷ cs) = omega (arith, encode_length cs)
 encode_length (Check row column ∷ cs) = omega (arith, encode_length cs)
 
 -- the first group is its call, and the others follow
-first_call : (c : Call) (l : List ℕ) → decode_at (encode c ++ l) 0 ≡ Of c
+first_call : (c : Call) (l : List ℕ) → decode_at (encode c ++ l) 0 ≡ Some c
 unfolding decode_at decode decode_other encode pick
 first_call (Make (Place row column digit)) l = refl
 first_call (Make (Erase row column)) l = refl
@@ -96,12 +95,12 @@ other_calls Undo l n = listed_later call_undo 0 0 0 l n 0
 other_calls Redo l n = listed_later call_redo 0 0 0 l n 0
 other_calls (Check row column) l n = listed_later call_check row column 0 l n 0
 
-all_calls : (cs : List Call) → listed (decode_at (encoded cs)) (length cs) 0 ≡ map Of cs
+all_calls : (cs : List Call) → listed (decode_at (encoded cs)) (length cs) 0 ≡ map Some cs
 unfolding listed encoded
 all_calls [] = refl
 all_calls (c ∷ cs) = λ i. first_call c (encoded cs) i ∷ (other_calls c (encoded cs) (length cs) ∙ all_calls cs) i
 
-pub decoded_encoded : (cs : List Call) → decoded (encoded cs) ≡ map Of cs
+pub decoded_encoded : (cs : List Call) → decoded (encoded cs) ≡ map Some cs
 unfolding decoded
 decoded_encoded cs =
     ap (λ (n : ℕ). listed (decode_at (encoded cs)) n 0) {x = length (encoded cs) / call_bytes} {y = length cs} (omega (arith, encode_length cs)) ∙ all_calls cs

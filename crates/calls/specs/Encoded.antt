@@ -6,7 +6,7 @@
 -- As many calls are run as there are whole groups of four both in the calls' bytes and in the answers' bytes;
 -- a last incomplete group is ignored, and answer bytes beyond the last answer stay as they were.
 -- Assumes nothing.
-use Rattle.std.specs.Prelude.{ℕ, ◌+◌, ◌*◌, ◌/◌, min, Bool, false, List, [], ◌∷◌, ◌++◌, eqb, length, get_or}
+use Rattle.std.specs.Prelude.{ℕ, ◌+◌, ◌*◌, ◌/◌, min, Bool, false, List, [], ◌∷◌, ◌++◌, eqb, length, get_or, Option, Some, None}
 use Rattle.sudoku.specs.Tests.{pick, bit, listed}
 use Rattle.puzzle.specs.declared.Refusal.{Refusal}
 use Rattle.puzzle.specs.Refusals.{refusal}
@@ -15,8 +15,6 @@ use Rattle.journal.specs.Bytes.{over, low, second}
 use Rattle.board.specs.declared.Board.{Board}
 use Rattle.calls.specs.declared.Call.{Call}
 use Rattle.calls.specs.declared.Call.TheVariants.{Make, Undo, Redo, Check}
-use Rattle.calls.specs.declared.Decoded.{Decoded}
-use Rattle.calls.specs.declared.Decoded.TheVariants.{Of, Nothing}
 use Rattle.calls.specs.Session.{Session, Said, Called, called, call_of}
 
 -- bytes of a call, and of its answer
@@ -50,25 +48,25 @@ abbrev pub no_call : ℕ
 no_call = 255
 
 -- what four bytes encode: a call that is no move, or nothing
-unfoldable pub decode_other : ℕ → ℕ → ℕ → Decoded
+unfoldable pub decode_other : ℕ → ℕ → ℕ → Option Call
 decode_other kind row column =
-    pick (eqb kind call_undo) (Of Undo) (pick (eqb kind call_check) (Of (Check row column)) (pick (eqb kind call_redo) (Of Redo) Nothing))
+    pick (eqb kind call_undo) (Some Undo) (pick (eqb kind call_check) (Some (Check row column)) (pick (eqb kind call_redo) (Some Redo) None))
 
 -- what four bytes encode
-unfoldable pub decode : ℕ → ℕ → ℕ → ℕ → Decoded
+unfoldable pub decode : ℕ → ℕ → ℕ → ℕ → Option Call
 decode kind row column digit =
-    pick (eqb kind call_place) (Of (Make (Place row column digit)))
-    (pick (eqb kind call_erase) (Of (Make (Erase row column)))
-    (pick (eqb kind call_write_mark) (Of (Make (WriteMark row column digit)))
-    (pick (eqb kind call_strike_mark) (Of (Make (StrikeMark row column digit))) (decode_other kind row column))))
+    pick (eqb kind call_place) (Some (Make (Place row column digit)))
+    (pick (eqb kind call_erase) (Some (Make (Erase row column)))
+    (pick (eqb kind call_write_mark) (Some (Make (WriteMark row column digit)))
+    (pick (eqb kind call_strike_mark) (Some (Make (StrikeMark row column digit))) (decode_other kind row column))))
 
 -- what group i encodes, counted from 0
-unfoldable pub decode_at : List ℕ → ℕ → Decoded
+unfoldable pub decode_at : List ℕ → ℕ → Option Call
 decode_at bytes i =
     decode (get_or bytes (call_bytes * i) 0) (get_or bytes (call_bytes * i + 1) 0) (get_or bytes (call_bytes * i + 2) 0) (get_or bytes (call_bytes * i + 3) 0)
 
 -- what all whole groups encode
-unfoldable pub decoded : List ℕ → List Decoded
+unfoldable pub decoded : List ℕ → List (Option Call)
 decoded bytes = listed (decode_at bytes) (length bytes / call_bytes) 0
 
 -- a call's four bytes, 0 where its kind uses none, and those of a list of calls
@@ -90,16 +88,16 @@ unfoldable pub groups : ℕ → ℕ → ℕ
 groups calls answers = min (calls / call_bytes) (answers / call_bytes)
 
 -- one group run: its call, or nothing
-unfoldable pub run_one : Session → Decoded → Called
-run_one s (Of c) = call_of s c
-run_one s Nothing = called (refusal no_call 0 0) false s.board s.journal s.checks
+unfoldable pub run_one : Session → Option Call → Called
+run_one s (Some c) = call_of s c
+run_one s None = called (refusal no_call 0 0) false s.board s.journal s.checks
 
 -- what the groups leave, and what each of them is answered
-unfoldable pub left_by : Session → List Decoded → Session
+unfoldable pub left_by : Session → List (Option Call) → Session
 left_by s [] = s
 left_by s (d ∷ ds) = left_by (run_one s d).left ds
 
-unfoldable pub said_to : Session → List Decoded → List Said
+unfoldable pub said_to : Session → List (Option Call) → List Said
 said_to s [] = []
 said_to s (d ∷ ds) = (run_one s d).said ∷ said_to (run_one s d).left ds
 

@@ -25,17 +25,10 @@ pub const CALL_REDO: u8 = 8;
 pub const NO_CALL: u8 = 255;
 
 // A play call.
-#[derive(Clone, Copy)]
+#[derive(Clone, Copy, PartialEq, Eq)]
 pub enum Call {
     Make(Move),
     Undo,
     Redo,
     Check { row: u8, column: u8 },
-}
-
-// What four bytes encode.
-#[derive(Clone, Copy)]
-pub enum Decoded {
-    Of(Call),
-    Nothing,
 }

@@ -6,6 +6,7 @@ use mathlib.Core.Bool.{true, false}
 use mathlib.Core.List.{List}
 use borrow.Author.Tests.{eq-eqb, ne_eqb, le-leb, lt-leb}
 use lib.Dec.{leb, eqb}
+use Rattle.std.specs.Prelude.{Option, Some, None}
 use Rattle.sudoku.specs.Tests.{pick, either}
 use Rattle.sudoku.proofs.Walks.{pick_true, pick_false, both_true, both_false_left, both_false_right}
 use Rattle.journal.specs.declared.Move.TheVariants.{Place, Erase, WriteMark, StrikeMark}
@@ -14,8 +15,6 @@ use Rattle.play.specs.Play.{play_of, undo_of, redo_of}
 use Rattle.play.specs.Check.{check_of}
 use Rattle.calls.specs.declared.Call.{Call}
 use Rattle.calls.specs.declared.Call.TheVariants.{Make, Undo, Redo, Check}
-use Rattle.calls.specs.declared.Decoded.{Decoded}
-use Rattle.calls.specs.declared.Decoded.TheVariants.{Of, Nothing}
 use Rattle.calls.specs.Session.{Session, called, call_of}
 use Rattle.calls.specs.Encoded.{run_one, session}
 use Rattle.texts.specs.declared.Command.{Command}
@@ -57,15 +56,15 @@ module _ (line : List ℕ) (c : Command) (b : Board) (journal checks : List ℕ)
   pub no_move : n.good ≡ false → session b journal checks ≡ (run_one (session b journal checks) (move_call line c)).left
   unfolding move_call run_one called
   no_move e =
-      ap (λ (d : Decoded). (run_one (session b journal checks) d).left)
+      ap (λ (d : Option Call). (run_one (session b journal checks) d).left)
       (sym (pick_false _ _ _ (sym (ap (λ (x : Numbers). x.good) is) ∙ e)))
 
   pub makes : n.good ≡ true → (r : Board) (j : List ℕ) → r ≡ (play_of b journal (move_named c.verb n)).answer.board → j ≡ (play_of b journal (move_named c.verb n)).journal → session r j checks ≡ (run_one (session b journal checks) (move_call line c)).left
   unfolding move_call run_one call_of called
   makes e r j p q =
       (λ i. session (p i) (q i) checks)
-      ∙ ap (λ (x : Numbers). (run_one (session b journal checks) (Of (Make (move_named c.verb x)))).left) is
-      ∙ ap (λ (d : Decoded). (run_one (session b journal checks) d).left)
+      ∙ ap (λ (x : Numbers). (run_one (session b journal checks) (Some (Make (move_named c.verb x)))).left) is
+      ∙ ap (λ (d : Option Call). (run_one (session b journal checks) d).left)
       (sym (pick_true _ _ _ (sym (ap (λ (x : Numbers). x.good) is) ∙ e)))
 
 -- ---- undo and redo
@@ -74,26 +73,26 @@ module _ (c : Command) (b : Board) (journal checks : List ℕ) where
   pub no_undo : (c.words ≡ 0 → ⊥) → session b journal checks ≡ (run_one (session b journal checks) (undo_call c)).left
   unfolding undo_call run_one called
   no_undo n =
-      ap (λ (d : Decoded). (run_one (session b journal checks) d).left)
+      ap (λ (d : Option Call). (run_one (session b journal checks) d).left)
       (sym (pick_false _ _ _ (ne_eqb c.words 0 n)))
 
   pub undoes : c.words ≡ 0 → c.verb ≡ 117 → (r : Board) → r ≡ (undo_of b journal).board → session r journal checks ≡ (run_one (session b journal checks) (undo_call c)).left
   unfolding undo_call run_one call_of called
   undoes w v r p =
       ap (λ (x : Board). session x journal checks) p
-      ∙ ap (λ (d : Decoded). (run_one (session b journal checks) d).left)
+      ∙ ap (λ (d : Option Call). (run_one (session b journal checks) d).left)
       (sym
       (pick_true _ _ _ (eq-eqb c.words 0 w)
-      ∙ ap (λ (x : Call). Of x) (pick_true _ Undo Redo (eq-eqb c.verb 117 v))))
+      ∙ ap (λ (x : Call). Some x) (pick_true _ Undo Redo (eq-eqb c.verb 117 v))))
 
   pub redoes : c.words ≡ 0 → (c.verb ≡ 117 → ⊥) → (r : Board) → r ≡ (redo_of b journal).board → session r journal checks ≡ (run_one (session b journal checks) (undo_call c)).left
   unfolding undo_call run_one call_of called
   redoes w v r p =
       ap (λ (x : Board). session x journal checks) p
-      ∙ ap (λ (d : Decoded). (run_one (session b journal checks) d).left)
+      ∙ ap (λ (d : Option Call). (run_one (session b journal checks) d).left)
       (sym
       (pick_true _ _ _ (eq-eqb c.words 0 w)
-      ∙ ap (λ (x : Call). Of x) (pick_false _ Undo Redo (ne_eqb c.verb 117 v))))
+      ∙ ap (λ (x : Call). Some x) (pick_false _ Undo Redo (ne_eqb c.verb 117 v))))
 
 -- ---- a check, by its numbers
 
@@ -101,15 +100,15 @@ module _ (line : List ℕ) (c : Command) (b : Board) (journal checks : List ℕ)
   pub no_check_lem : n.good ≡ false → session b journal checks ≡ (run_one (session b journal checks) (check_call line c)).left
   unfolding check_call run_one called
   no_check_lem e =
-      ap (λ (d : Decoded). (run_one (session b journal checks) d).left)
+      ap (λ (d : Option Call). (run_one (session b journal checks) d).left)
       (sym (pick_false _ _ _ (sym (ap (λ (x : Numbers). x.good) is) ∙ e)))
 
   pub asks : n.good ≡ true → (r : Board) (k : List ℕ) → r ≡ (check_of b checks n.row n.column).answer.board → k ≡ (check_of b checks n.row n.column).checks → session r journal k ≡ (run_one (session b journal checks) (check_call line c)).left
   unfolding check_call run_one call_of called
   asks e r k p q =
       (λ i. session (p i) journal (q i))
-      ∙ ap (λ (x : Numbers). (run_one (session b journal checks) (Of (Check x.row x.column))).left) is
-      ∙ ap (λ (d : Decoded). (run_one (session b journal checks) d).left)
+      ∙ ap (λ (x : Numbers). (run_one (session b journal checks) (Some (Check x.row x.column))).left) is
+      ∙ ap (λ (d : Option Call). (run_one (session b journal checks) d).left)
       (sym (pick_true _ _ _ (sym (ap (λ (x : Numbers). x.good) is) ∙ e)))
 
 -- ---- open, by its words and by what was loaded
@@ -168,9 +167,9 @@ module _ (line : List ℕ) (c : Command) (file answers : Content) (s : Session) 
   unfolding command_leaves
   by_puzzle e = sym (pick_false _ _ _ (ap (λ (x : ℕ). eqb x 111) e) ∙ pick_true _ _ _ (eq-eqb c.verb 122 e))
 
-  by_call : (d : Decoded) → eqb c.verb 111 ≡ false → eqb c.verb 122 ≡ false → command_call line c ≡ d → (run_one s d).left ≡ command_leaves line c file answers s
+  by_call : (d : Option Call) → eqb c.verb 111 ≡ false → eqb c.verb 122 ≡ false → command_call line c ≡ d → (run_one s d).left ≡ command_leaves line c file answers s
   unfolding command_leaves
-  by_call d o z e = sym (pick_false _ _ _ o ∙ pick_false _ _ _ z ∙ ap (λ (x : Decoded). (run_one s x).left) e)
+  by_call d o z e = sym (pick_false _ _ _ o ∙ pick_false _ _ _ z ∙ ap (λ (x : Option Call). (run_one s x).left) e)
 
   pub by_move : (v : ℕ) → c.verb ≡ v → is_move v ≡ true → eqb v 111 ≡ false → eqb v 122 ≡ false → (run_one s (move_call line c)).left ≡ command_leaves line c file answers s
   unfolding command_call
@@ -192,7 +191,7 @@ module _ (line : List ℕ) (c : Command) (file answers : Content) (s : Session) 
 
   pub by_none : is_move c.verb ≡ false → is_undo c.verb ≡ false → eqb c.verb 99 ≡ false → eqb c.verb 111 ≡ false → eqb c.verb 122 ≡ false → s ≡ command_leaves line c file answers s
   unfolding command_call run_one called
-  by_none m u k o z = by_call Nothing o z (pick_false _ _ _ m ∙ pick_false _ _ _ u ∙ pick_false _ _ _ k)
+  by_none m u k o z = by_call None o z (pick_false _ _ _ m ∙ pick_false _ _ _ u ∙ pick_false _ _ _ k)
 
   pub by_other : (v : ℕ) → c.verb ≡ v → is_move v ≡ false → is_undo v ≡ false → eqb v 99 ≡ false → eqb v 111 ≡ false → eqb v 122 ≡ false → s ≡ command_leaves line c file answers s
   by_other v e m u k o z =

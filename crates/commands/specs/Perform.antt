@@ -1,14 +1,13 @@
 -- What a command of the console does: which call of the library it names, and what it leaves of the board and its
 -- lent memory. What a command shows no contract can say.
 -- Assumes nothing.
-use Rattle.std.specs.Prelude.{ℕ, ◌≡◌, Bool, not, List, ltb, leb, eqb}
+use Rattle.std.specs.Prelude.{ℕ, ◌≡◌, Bool, not, List, ltb, leb, eqb, Option, Some, None}
 use Rattle.sudoku.specs.Tests.{pick, both, either}
 use Rattle.journal.specs.declared.Move.{Move}
 use Rattle.journal.specs.declared.Move.TheVariants.{Place, Erase, WriteMark, StrikeMark}
 use Rattle.board.specs.declared.Board.{Board}
+use Rattle.calls.specs.declared.Call.{Call}
 use Rattle.calls.specs.declared.Call.TheVariants.{Make, Undo, Redo, Check}
-use Rattle.calls.specs.declared.Decoded.{Decoded}
-use Rattle.calls.specs.declared.Decoded.TheVariants.{Of, Nothing}
 use Rattle.calls.specs.Session.{Session}
 use Rattle.calls.specs.Encoded.{run_one, session}
 use Rattle.texts.specs.declared.Command.{Command}
@@ -93,29 +92,29 @@ move_named verb n =
     (pick (eqb verb letter_mark) (WriteMark n.row n.column n.digit)
     (pick (eqb verb letter_strike) (StrikeMark n.row n.column n.digit) (Erase n.row n.column)))
 
-unfoldable pub move_call : List ℕ → Command → Decoded
+unfoldable pub move_call : List ℕ → Command → Option Call
 move_call line c =
     let n = numbers_of line c (wanted_by c.verb) in
-    pick n.good (Of (Make (move_named c.verb n))) Nothing
+    pick n.good (Some (Make (move_named c.verb n))) None
 
 -- u undo, r redo
 unfoldable pub is_undo : ℕ → Bool
 is_undo verb = either (eqb verb letter_undo) (eqb verb letter_redo)
 
-unfoldable pub undo_call : Command → Decoded
-undo_call c = pick (eqb c.words 0) (Of (pick (eqb c.verb letter_undo) Undo Redo)) Nothing
+unfoldable pub undo_call : Command → Option Call
+undo_call c = pick (eqb c.words 0) (Some (pick (eqb c.verb letter_undo) Undo Redo)) None
 
 -- c check
-unfoldable pub check_call : List ℕ → Command → Decoded
+unfoldable pub check_call : List ℕ → Command → Option Call
 check_call line c =
     let n = numbers_of line c 2 in
-    pick n.good (Of (Check n.row n.column)) Nothing
+    pick n.good (Some (Check n.row n.column)) None
 
 -- any other command names no call
-unfoldable pub command_call : List ℕ → Command → Decoded
+unfoldable pub command_call : List ℕ → Command → Option Call
 command_call line c =
     pick (is_move c.verb) (move_call line c)
-    (pick (is_undo c.verb) (undo_call c) (pick (eqb c.verb letter_check) (check_call line c) Nothing))
+    (pick (is_undo c.verb) (undo_call c) (pick (eqb c.verb letter_check) (check_call line c) None))
 
 -- ---- what a command leaves
 

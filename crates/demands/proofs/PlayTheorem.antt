@@ -4,10 +4,10 @@ use Prim.Native.Nat.{ℕ, ◌*◌, ◌≤◌}
 use mathlib.Core.Path.{◌≡◌, sym, ap, subst, ◌∙◌}
 use mathlib.Core.List.{List, map}
 use lib.ListN.{length}
+use Rattle.std.specs.Prelude.{Some}
 use Rattle.journal.specs.Bytes.{over}
 use Rattle.board.specs.Open.{opened_fresh}
 use Rattle.calls.specs.declared.Call.{Call}
-use Rattle.calls.specs.declared.Decoded.TheVariants.{Of}
 use Rattle.calls.specs.Session.{Session, Said, started}
 use Rattle.calls.specs.Encoded.{call_bytes, decoded, answers_bytes, Ran, run_of}
 use Rattle.calls.proofs.Coding.{run_calls, decoded_encoded}
@@ -18,7 +18,7 @@ use Rattle.demands.proofs.Lists.{of_book}
 use Rattle.demands.proofs.Demand3.{demand3, plays_as}
 
 -- where calls go as in a book, the bytes that encode them do
-ran_as_book : (s : Session) (k : Book) (calls : List Call) (bytes answers : List ℕ) → PlaysAs s k calls → decoded bytes ≡ map Of calls
+ran_as_book : (s : Session) (k : Book) (calls : List Call) (bytes answers : List ℕ) → PlaysAs s k calls → decoded bytes ≡ map Some calls
     → call_bytes * length calls ≤ length answers → RanAsBook (run_of s bytes answers) k calls answers
 ran_as_book s k calls bytes answers plays p h =
     let e = run_calls s bytes answers calls p h in
@@ -35,7 +35,7 @@ play_theorem =
           ran_as_book (started (opened_fresh givens solution)) (new_book givens solution) calls bytes answers (demand3.played givens solution calls o);
       reached =
           λ s r calls bytes answers.
-          of_book s r (λ (x : Session) (k : Book). decoded bytes ≡ map Of calls → call_bytes * length calls ≤ length answers → RanAsBook (run_of x bytes answers) k calls answers)
+          of_book s r (λ (x : Session) (k : Book). decoded bytes ≡ map Some calls → call_bytes * length calls ≤ length answers → RanAsBook (run_of x bytes answers) k calls answers)
           (λ k journal checks g h. ran_as_book _ k calls bytes answers (plays_as k journal checks calls g h));
       every_list = decoded_encoded;
     }

@@ -3,7 +3,7 @@
 -- numbers in every field, and says both which bytes are written and what is read of these bytes, so that
 -- a layout changed in writing and reading alike, as by a swap of row and column, breaks it.
 -- The proof stands elsewhere. Assumes nothing.
-use Rattle.std.specs.Prelude.{ℕ, ◌+◌, ◌-◌, ◌*◌, ◌^◌, ◌≡◌, true, false, List, [], ◌∷◌, ◌++◌, replicate}
+use Rattle.std.specs.Prelude.{ℕ, ◌+◌, ◌-◌, ◌*◌, ◌^◌, ◌≡◌, true, false, List, [], ◌∷◌, ◌++◌, replicate, Some, None}
 use Rattle.puzzle.specs.Refusals.{refusal, accepted}
 use Rattle.puzzle.specs.Givens.{triples}
 use Rattle.journal.specs.declared.Move.{Move}
@@ -20,7 +20,6 @@ use Rattle.record.specs.Items.{Parts, record_of}
 use Rattle.record.specs.Scan.{malformed, parts_of_bytes}
 use Rattle.calls.specs.declared.Call.{Call}
 use Rattle.calls.specs.declared.Call.TheVariants.{Make, Undo, Redo, Check}
-use Rattle.calls.specs.declared.Decoded.TheVariants.{Of, Nothing}
 use Rattle.calls.specs.Session.{Session, after, started}
 use Rattle.calls.specs.Encoded.{call_bytes, encode, decode_at, answer_bytes, said}
 use Rattle.demands.specs.Positions.{solution_g, givens_e, place, write_mark, strike_mark}
@@ -108,7 +107,7 @@ pub record ItemRows : Type 0 where
 -- a call's bytes, and the same bytes read behind another call's
 pub record CallRow (c : Call) (bytes : List ℕ) : Type 0 where
   pub written : encode c ≡ bytes
-  pub read : decode_at (replicate call_bytes 0 ++ bytes) 1 ≡ Of c
+  pub read : decode_at (replicate call_bytes 0 ++ bytes) 1 ≡ Some c
 
 pub record CallRows : Type 0 where
   pub places : CallRow (place 3 7 4) (2 ∷ 3 ∷ 7 ∷ 4 ∷ [])
@@ -118,8 +117,8 @@ pub record CallRows : Type 0 where
   pub undoes : CallRow Undo (6 ∷ 0 ∷ 0 ∷ 0 ∷ [])
   pub checks : CallRow (Check 9 2) (7 ∷ 9 ∷ 2 ∷ 0 ∷ [])
   pub redoes : CallRow Redo (8 ∷ 0 ∷ 0 ∷ 0 ∷ [])
-  pub none_1 : decode_at (1 ∷ 3 ∷ 7 ∷ 4 ∷ []) 0 ≡ Nothing
-  pub none_9 : decode_at (9 ∷ 3 ∷ 7 ∷ 4 ∷ []) 0 ≡ Nothing
+  pub none_1 : decode_at (1 ∷ 3 ∷ 7 ∷ 4 ∷ []) 0 ≡ None
+  pub none_9 : decode_at (9 ∷ 3 ∷ 7 ∷ 4 ∷ []) 0 ≡ None
   pub refused : answer_bytes (said (refusal 14 772 0) false) ≡ 14 ∷ 4 ∷ 3 ∷ 0 ∷ []
   pub right : answer_bytes (said accepted true) ≡ 0 ∷ 0 ∷ 0 ∷ 1 ∷ []
 

@@ -5,12 +5,11 @@
 -- answers' bytes are the book's answers, and the board and the memory hold the book.
 -- And every list of calls has bytes that encode it.
 -- The proof stands elsewhere. Assumes nothing.
-use Rattle.std.specs.Prelude.{ℕ, ◌*◌, ◌≤◌, ◌≡◌, List, map, length}
+use Rattle.std.specs.Prelude.{ℕ, ◌*◌, ◌≤◌, ◌≡◌, List, map, length, Some}
 use Rattle.puzzle.specs.declared.Given.{Given}
 use Rattle.journal.specs.Bytes.{over}
 use Rattle.board.specs.Open.{opened_fresh}
 use Rattle.calls.specs.declared.Call.{Call}
-use Rattle.calls.specs.declared.Decoded.TheVariants.{Of}
 use Rattle.calls.specs.Session.{Session, started}
 use Rattle.calls.specs.Encoded.{call_bytes, decoded, encoded, answers_bytes, Ran, run_of}
 use Rattle.demands.specs.Book.{Book, new_book, keep, says_all}
@@ -26,13 +25,13 @@ pub record PlayTheorem : Type 0 where
   pub played :
       (givens : List Given) (solution : List ℕ) (calls : List Call) (bytes answers : List ℕ)
       → Opens givens solution
-      → decoded bytes ≡ map Of calls
+      → decoded bytes ≡ map Some calls
       → call_bytes * length calls ≤ length answers
       → RanAsBook (run_of (started (opened_fresh givens solution)) bytes answers) (new_book givens solution) calls answers
   -- the same of every board that calls reach, from an opening or from a reopening
   pub reached :
       (s : Session) (r : Reached s) (calls : List Call) (bytes answers : List ℕ)
-      → decoded bytes ≡ map Of calls
+      → decoded bytes ≡ map Some calls
       → call_bytes * length calls ≤ length answers
       → RanAsBook (run_of s bytes answers) (book_of s r) calls answers
-  pub every_list : (calls : List Call) → decoded (encoded calls) ≡ map Of calls
+  pub every_list : (calls : List Call) → decoded (encoded calls) ≡ map Some calls

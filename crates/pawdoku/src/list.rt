@@ -11,13 +11,13 @@ ghost use Rattle.calls.specs.Code.Running.{answered_at, run_at};
 use crate::played::{pawdoku_check, pawdoku_redo, pawdoku_undo};
 use board::{Answer, Board, Checked};
 use calls::encoded::{decode, groups};
-use calls::{CALL_BYTES, Call, Decoded, NO_CALL};
+use calls::{CALL_BYTES, Call, NO_CALL};
 use journal::checks::verdict;
 use puzzle::answer::{accepted, refusal};
 use puzzle::{Refusal, byte_at};
 
 // What group i of four bytes encodes.
-fn decode_at(calls: &[u8], i: usize) -> Decoded
+fn decode_at(calls: &[u8], i: usize) -> Option<Call>
     requires { i < length calls.now / call_bytes }
     ensures { result ≡ decode_at calls.now i }
 {
@@ -101,7 +101,7 @@ fn one_call(
     ensures { ran (session result journal.new checks.new) answers.new ≡ run_at calls.now (session board journal.old checks.old) answers.old i }
 {
     let d = decode_at(calls, i);
-    let Decoded::Of(c) = d else {
+    let Some(c) = d else {
         write_answer(answers, i, refusal(NO_CALL, 0, 0), false);
         return board;
     };

@@ -12,4 +12,4 @@ returns-in_default c = rw (← c.decode_at-d.ensures, c.in_default.is, ← c.ref
 
 pub returns : goal.returns
 unfolding run_at run_one
-returns c = rw (← c.decode_at-d.ensures, c.in-Of.is) c.call.ensures
+returns c = rw (← c.decode_at-d.ensures, c.in-Some.is) c.call.ensures
