@@ -1,12 +1,10 @@
 // An encoded list of calls, run: each call in its turn, on the board and memory that the last one left.
 // A list is a chain of the calls that a host makes, each handed what the last returned: undo, redo and check by the
 // functions of crate pawdoku, a move by the function that its four hand it to (docs/DECISIONS.md, 31).
-ghost use Rattle.std.specs.Prelude.{◌≡◌, false as no, ◌*◌, ◌/◌, ◌<◌, length};
+ghost use Rattle.std.specs.Prelude.{◌≡◌, false as no, ◌/◌, ◌<◌, length};
 ghost use Rattle.puzzle.specs.Refusals.{accepted as accepted_of};
-ghost use Rattle.journal.specs.Bytes.{over};
 ghost use Rattle.calls.specs.Session.{call_of};
-ghost use Rattle.calls.specs.Encoded.{call_bytes, said, decode_at, answer_bytes, session, ran, run_of};
-ghost use Rattle.calls.specs.Code.Running.{answered_at, run_at};
+ghost use Rattle.calls.specs.Encoded.{call_bytes, said, decode_at, answer_bytes, session, ran, run_one, run_of};
 
 use crate::played::{pawdoku_check, pawdoku_redo, pawdoku_undo};
 use board::{Answer, Board, Checked};
@@ -28,84 +26,65 @@ fn decode_at(calls: &[u8], i: usize) -> Option<Call>
     decode(kind, row, column, byte_at(calls, start + 3))
 }
 
-// Writes an answer behind `index` others.
-fn write_answer(answers: &mut [u8], index: usize, r: Refusal, right: bool)
-    requires { index < length answers.old / call_bytes }
-    ensures { answers.new ≡ over answers.old (call_bytes * index) (answer_bytes (said r right)) }
+// An answer as four bytes.
+#[tactic(auto, unfolding(calls::specs::Encoded::answer_bytes, journal::specs::Bytes::low, journal::specs::Bytes::second))]
+fn encoded(r: Refusal, right: bool) -> [u8; CALL_BYTES]
+    ensures { result ≡ answer_bytes (said r right) }
 {
-    let start = CALL_BYTES * index;
-    answers[start] = r.number;
-    answers[start + 1] = (r.place % 256) as u8;
-    answers[start + 2] = (r.place / 256 % 256) as u8;
-    answers[start + 3] = verdict(right);
+    let [low, second, ..] = r.place.to_le_bytes();
+    [r.number, low, second, verdict(right)]
 }
 
-// The answer of a call that is no check, written behind `index` others with the
-// verdict false; the board that the call leaves is handed on.
-fn answered(answer: Answer, answers: &mut [u8], index: usize) -> Board
-    requires { index < length answers.old / call_bytes }
-    ensures { (result ≡ answer.board) × (answers.new ≡ over answers.old (call_bytes * index) (answer_bytes (said answer.refusal no))) }
+// The answer of a call that is no check, written with the verdict false; the board that the call leaves is handed on.
+fn answered(given: Answer, answer: &mut [u8; CALL_BYTES]) -> Board
+    ensures { (result ≡ given.board) × (answer.new ≡ answer_bytes (said given.refusal no)) }
 {
-    let refusal = answer.refusal;
-    let after = answer.board;
-    write_answer(answers, index, refusal, false);
-    after
+    *answer = encoded(given.refusal, false);
+    given.board
 }
 
-// The answer of a check, with its verdict.
-fn judged(answer: Checked, answers: &mut [u8], index: usize) -> Board
-    requires { index < length answers.old / call_bytes }
-    ensures { (result ≡ answer.board) × (answers.new ≡ over answers.old (call_bytes * index) (answer_bytes (said answer.refusal answer.right))) }
-{
-    let refusal = answer.refusal;
-    let after = answer.board;
-    write_answer(answers, index, refusal, answer.right);
-    after
-}
-
-// One call, answered behind `index` others. Each answer is written where it is returned: handed on
-// as one struct for all calls, a list of 392 took a fifth longer.
+// One call, and its answer. The answer is written where it is returned: handed on as one struct for all calls, a list
+// of 392 took a fifth longer.
+#[tactic(auto, unfolding(calls::specs::Session::call_of, calls::specs::Session::called))]
 fn call(
     board: Board,
     journal: &mut [u8],
     checks: &mut [u8],
     c: Call,
-    answers: &mut [u8],
-    index: usize,
+    answer: &mut [u8; CALL_BYTES],
 ) -> Board
-    requires { index < length answers.old / call_bytes }
-    ensures { ran (session result journal.new checks.new) answers.new ≡ answered_at answers.old index (call_of (session board journal.old checks.old) c) }
+    ensures left { session result journal.new checks.new ≡ (call_of (session board journal.old checks.old) c).left }
+    ensures answer_after { answer.new ≡ answer_bytes (call_of (session board journal.old checks.old) c).said }
 {
     match c {
-        Call::Make(m) => answered(play::moves::play(board, journal, m), answers, index),
-        Call::Undo => answered(pawdoku_undo(board, journal), answers, index),
-        Call::Redo => answered(pawdoku_redo(board, journal), answers, index),
-        Call::Check { row, column } => judged(
-            pawdoku_check(board, checks, row, column),
-            answers,
-            index,
-        ),
+        Call::Make(m) => answered(play::moves::play(board, journal, m), answer),
+        Call::Undo => answered(pawdoku_undo(board, journal), answer),
+        Call::Redo => answered(pawdoku_redo(board, journal), answer),
+        Call::Check { row, column } => {
+            let found = pawdoku_check(board, checks, row, column);
+            *answer = encoded(found.refusal, found.right);
+            found.board
+        }
     }
 }
 
-// Group i: run, and answered in its place; bytes that encode no call are answered by 255 and change nothing.
+// One group: run, and answered; bytes that encode no call are answered by 255 and change nothing.
+#[tactic(auto, unfolding(calls::specs::Encoded::run_one, calls::specs::Session::called))]
 fn one_call(
     board: Board,
     journal: &mut [u8],
     checks: &mut [u8],
-    calls: &[u8],
-    answers: &mut [u8],
-    i: usize,
+    asked: Option<Call>,
+    answer: &mut [u8; CALL_BYTES],
 ) -> Board
-    requires { (i < length calls.now / call_bytes) × (i < length answers.old / call_bytes) }
-    ensures { ran (session result journal.new checks.new) answers.new ≡ run_at calls.now (session board journal.old checks.old) answers.old i }
+    ensures left { session result journal.new checks.new ≡ (run_one (session board journal.old checks.old) asked).left }
+    ensures answer_after { answer.new ≡ answer_bytes (run_one (session board journal.old checks.old) asked).said }
 {
-    let d = decode_at(calls, i);
-    let Some(c) = d else {
-        write_answer(answers, i, refusal(NO_CALL, 0, 0), false);
+    let Some(c) = asked else {
+        *answer = encoded(refusal(NO_CALL, 0, 0), false);
         return board;
     };
-    call(board, journal, checks, c, answers, i)
+    call(board, journal, checks, c, answer)
 }
 
 // Runs an encoded list of calls, and writes each call's answer. The list itself is never refused.
@@ -121,11 +100,11 @@ pub fn pawdoku_play(
 {
     let end = groups(calls.len(), answers.len());
     let mut left = board;
-    let mut i: usize = 0;
-    while i < end {
-        let next = one_call(left, journal, checks, calls, answers, i);
-        left = next;
-        i += 1;
+    for i in 0..end {
+        let mut answer = [0u8; CALL_BYTES];
+        left = one_call(left, journal, checks, decode_at(calls, i), &mut answer);
+        let start = CALL_BYTES * i;
+        answers[start..start + CALL_BYTES].copy_from_slice(&answer);
     }
     Answer {
         refusal: accepted(),

@@ -1,76 +1,70 @@
 // What the journal shows: the latest standing move, the next to redo, and the reading of move k.
 // A part of the journal cannot be returned over the C boundary: the slot's bytes are copied and its offset is answered.
-ghost use Rattle.std.specs.Prelude.{◌≡◌, ◌≤◌, ◌++◌, drop, length};
+ghost use Rattle.std.specs.Prelude.{◌≡◌, ◌*◌, ◌^◌, ◌<◌, length, IfOk, MatchResult};
 ghost use Rattle.journal.specs.Limits.{slot_bytes};
+ghost use Rattle.board.specs.Errors.{play_number};
 ghost use Rattle.readings.specs.Reading.{reading_of};
 ghost use Rattle.pawdoku.specs.Library.{not_shown, shown, latest_shown, next_shown};
 
 use crate::Shown;
 use board::Board;
+use board::error::PlayError;
 use journal::SLOT_BYTES;
+use play::shown::{latest_slot, next_slot};
+use puzzle::Refusal;
 use puzzle::answer::{accepted, refusal};
 use readings::Reading;
 
-fn not_shown(number: u8) -> Shown
-    ensures { result ≡ not_shown number }
+// Zeros beside a refusal.
+fn not_shown(refusal: Refusal) -> Shown
+    ensures { result ≡ record { refusal = refusal; offset = 0; length = 0 } }
 {
     Shown {
-        refusal: refusal(number, 0, 0),
+        refusal,
         offset: 0,
         length: 0,
     }
 }
 
-// Bytes copied to the start of others, of which there are as many; those beyond stay.
-fn copy(part: &[u8], output: &mut [u8]) -> usize
-    requires { length part.now ≤ length output.old }
-    ensures count { result ≡ length part.now }
-    ensures output_after { output.new ≡ part.now ++ drop (length part.now) output.old }
+// The part that holds the slot behind `others`, copied to the output's start; refused as the slot is, and by 34 where
+// the output is too short.
+#[tactic(auto, unfolding(crate::specs::Library::shown, crate::specs::Library::not_shown, crate::specs::Library::shown_at, crate::specs::Library::show_number, sudoku::specs::Tests::first, sudoku::specs::Tests::pick, journal::specs::Bytes::over))]
+fn shown(slot: Result<&[u8], PlayError>, others: usize, output: &mut [u8]) -> Shown
+    requires { IfOk slot (λ part. (length part.now ≡ slot_bytes) × (slot_bytes * others < 2 ^ 64)) }
+    ensures value { MatchResult slot.entry (λ part. result ≡ (shown 0 (slot_bytes * others) part.now output.old).answer) (λ e. result ≡ not_shown (play_number e)) }
+    ensures output_after { MatchResult slot.entry (λ part. output.new ≡ (shown 0 (slot_bytes * others) part.now output.old).output) (λ _. output.new ≡ output.old) }
 {
-    let n = part.len();
-    output[..n].copy_from_slice(part);
-    n
-}
-
-// A slot's bytes copied to the output's start; refused by 34 where the output is too short for them.
-fn copied(part: &[u8], offset: usize, output: &mut [u8]) -> Shown
-    requires { length part.now ≡ slot_bytes }
-    ensures value { result ≡ (shown 0 offset part.now output.old).answer }
-    ensures output_after { output.new ≡ (shown 0 offset part.now output.old).output }
-{
+    let part = match slot {
+        Ok(part) => part,
+        Err(e) => return not_shown(e.into()),
+    };
     if output.len() < SLOT_BYTES {
-        return not_shown(34);
+        return not_shown(refusal(34, 0, 0));
     }
-    let length = copy(part, output);
+    output[..SLOT_BYTES].copy_from_slice(part);
     Shown {
         refusal: accepted(),
-        offset: offset,
-        length: length,
+        offset: SLOT_BYTES * others,
+        length: SLOT_BYTES,
     }
 }
 
+#[tactic(auto, unfolding(crate::specs::Library::latest_shown, crate::specs::Library::shown, crate::specs::Library::not_shown, crate::specs::Library::show_number, sudoku::specs::Tests::first, sudoku::specs::Tests::pick))]
 pub fn pawdoku_latest(board: Board, journal: &[u8], output: &mut [u8]) -> Shown
     ensures value { result ≡ (latest_shown board journal.now output.old).answer }
     ensures output_after { output.new ≡ (latest_shown board journal.now output.old).output }
 {
-    let mut number: u8 = 0;
-    let part = play::shown::latest(board, journal, &mut number);
-    if number != 0 {
-        return not_shown(number);
-    }
-    copied(part, SLOT_BYTES * (board.standing - 1), output)
+    let slot = latest_slot(board, journal);
+    shown(slot, board.standing.saturating_sub(1), output)
 }
 
+#[tactic(auto, unfolding(crate::specs::Library::next_shown, crate::specs::Library::shown, crate::specs::Library::not_shown, crate::specs::Library::show_number, sudoku::specs::Tests::first, sudoku::specs::Tests::pick))]
 pub fn pawdoku_next(board: Board, journal: &[u8], output: &mut [u8]) -> Shown
     ensures value { result ≡ (next_shown board journal.now output.old).answer }
     ensures output_after { output.new ≡ (next_shown board journal.now output.old).output }
 {
-    let mut number: u8 = 0;
-    let part = play::shown::next(board, journal, &mut number);
-    if number != 0 {
-        return not_shown(number);
-    }
-    copied(part, SLOT_BYTES * board.standing, output)
+    let slot = next_slot(board, journal);
+    shown(slot, board.standing, output)
 }
 
 pub fn pawdoku_reading(board: Board, journal: &[u8], k: usize) -> Reading

@@ -1,38 +1,15 @@
 -- `pawdoku::slots::pawdoku_next` meets its contract.
 -- Assumes nothing.
-use mathlib.Core.Path.{refl, sym, ap, ◌∙◌}
 use native.Mathlib.Omega.{arith}
-use lib.ListN.{length}
+use denote.Bor.{Bor}
+use mathlib.Core.List.{List}
+use Prim.Native.Nat.{ℕ}
 use Rattle.play.proofs.Accepted.{next_within}
-use Rattle.pawdoku.specs.Library.{Showing, next_shown}
-use Rattle.pawdoku.proofs.Showing.{shown_refused, shown_same, next_length}
+use Rattle.pawdoku.proofs.Showing.{where_shown, next_length}
 use Rattle.pawdoku.proofs.slots.pawdoku_next.Goals as goal
 
-pub returns-then-number-ne0 : goal.returns-then-number-ne0
-unfolding next_shown
-returns-then-number-ne0 c =
+pub shown-requires : goal.shown-requires
+shown-requires c =
     let a = c.args in
-    let n = c.next-part.ensures.1 in
-    let e = shown_refused _ _ _ _ a.output.now _ n c.if-number-ne0.true c.not_shown.ensures in
-    record { value = ap (λ (s : Showing). s.answer) e; output_after = ap (λ (s : Showing). s.output) e }
-
-pub overflow_mul-board : goal.overflow_mul-board
-overflow_mul-board c =
-    let a = c.args in
-    let k = next_within a.board a.journal.now (sym c.next-part.ensures.1 ∙ c.if-number-ne0.false) in
-    omega (arith, k)
-
-pub copied-requires : goal.copied-requires
-copied-requires c =
-    let a = c.args in
-    ap length c.next-part.ensures.0
-    ∙ next_length a.board a.journal.now (sym c.next-part.ensures.1 ∙ c.if-number-ne0.false)
-
-pub returns : goal.returns
-unfolding next_shown
-returns c =
-    let a = c.args in
-    let n = sym c.if-number-ne0.false ∙ c.next-part.ensures.1 in
-    let p = c.next-part.ensures.0 in
-    let e = shown_same _ _ _ _ _ _ a.output.now n refl p in
-    record { value = c.copied.ensures.value ∙ ap (λ (s : Showing). s.answer) e; output_after = c.copied.ensures.output_after ∙ ap (λ (s : Showing). s.output) e }
+    where_shown (λ (p : Bor (List ℕ)). p.now) _ _ _ _ c.next_slot-slot.ensures.number c.next_slot-slot.ensures.part
+    (λ z. (next_length a.board a.journal.now z, omega (arith, next_within a.board a.journal.now z)))
