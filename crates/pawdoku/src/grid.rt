@@ -24,11 +24,13 @@ pub fn pawdoku_note_is_empty(note: u16) -> bool
     note::is_empty(note)
 }
 
+#[tactic(auto, unfolding(crate::specs::Library::digits_in))]
 pub fn pawdoku_note_digits(note: u16) -> Digits
     ensures { result ≡ digits_in note }
 {
-    let digits = note::digits(note);
-    Digits { digits: digits }
+    Digits {
+        digits: note::digits(note),
+    }
 }
 
 pub fn pawdoku_cell_of(row: u8, column: u8) -> usize
@@ -55,9 +57,11 @@ pub fn pawdoku_is_peer_of(row: u8, column: u8, row2: u8, column2: u8) -> bool
     sudoku::is_peer_of(row, column, row2, column2)
 }
 
+#[tactic(auto, unfolding(crate::specs::Library::peer_cells))]
 pub fn pawdoku_peers(cell: usize) -> PeerCells
     ensures { result ≡ peer_cells cell }
 {
-    let cells = sudoku::peers(cell);
-    PeerCells { cells: cells }
+    PeerCells {
+        cells: sudoku::peers(cell),
+    }
 }

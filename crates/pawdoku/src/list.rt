@@ -15,6 +15,7 @@ use puzzle::answer::{accepted, refusal};
 use puzzle::{Refusal, byte_at};
 
 // What group i of four bytes encodes.
+#[tactic(auto, unfolding(calls::specs::Encoded::decode_at))]
 fn decode_at(calls: &[u8], i: usize) -> Option<Call>
     requires { i < length calls.now / call_bytes }
     ensures { result ≡ decode_at calls.now i }

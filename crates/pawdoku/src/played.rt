@@ -3,47 +3,42 @@ ghost use Rattle.std.specs.Prelude.{◌≡◌};
 ghost use Rattle.play.specs.Play.{play_of, place_of, erase_of, write_mark_of, strike_mark_of, undo_of, redo_of};
 ghost use Rattle.play.specs.Check.{check_of};
 
+use board::error::PlayError;
 use board::{Answer, Board, Checked};
 use journal::{JOURNAL_BYTES, Move};
-use puzzle::answer::refusal;
 
 // A call that makes a move. Number 1 is asked here, so that a call that is refused at once copies the board once.
+#[tactic(auto, unfolding(play::specs::Play::play_of, play::specs::Play::call_tests, board::specs::Board::lent_tests, sudoku::specs::Tests::first, sudoku::specs::Tests::pick))]
 fn made(board: Board, journal: &mut [u8], m: Move) -> Answer
     ensures value { result ≡ (play_of board journal.old m).answer }
     ensures journal_after { journal.new ≡ (play_of board journal.old m).journal }
 {
     if journal.len() != JOURNAL_BYTES {
         return Answer {
-            refusal: refusal(1, 0, 0),
-            board: board,
+            refusal: PlayError::WrongLength.into(),
+            board,
         };
     }
     play::moves::play(board, journal, m)
 }
 
+#[tactic(auto, unfolding(play::specs::Play::place_of))]
 pub fn pawdoku_place(board: Board, journal: &mut [u8], row: u8, column: u8, digit: u8) -> Answer
     ensures value { result ≡ (place_of board journal.old row column digit).answer }
     ensures journal_after { journal.new ≡ (place_of board journal.old row column digit).journal }
 {
-    let m = Move::Place {
-        row: row,
-        column: column,
-        digit: digit,
-    };
-    made(board, journal, m)
+    made(board, journal, Move::Place { row, column, digit })
 }
 
+#[tactic(auto, unfolding(play::specs::Play::erase_of))]
 pub fn pawdoku_erase(board: Board, journal: &mut [u8], row: u8, column: u8) -> Answer
     ensures value { result ≡ (erase_of board journal.old row column).answer }
     ensures journal_after { journal.new ≡ (erase_of board journal.old row column).journal }
 {
-    let m = Move::Erase {
-        row: row,
-        column: column,
-    };
-    made(board, journal, m)
+    made(board, journal, Move::Erase { row, column })
 }
 
+#[tactic(auto, unfolding(play::specs::Play::write_mark_of))]
 pub fn pawdoku_write_mark(
     board: Board,
     journal: &mut [u8],
@@ -54,14 +49,10 @@ pub fn pawdoku_write_mark(
     ensures value { result ≡ (write_mark_of board journal.old row column digit).answer }
     ensures journal_after { journal.new ≡ (write_mark_of board journal.old row column digit).journal }
 {
-    let m = Move::WriteMark {
-        row: row,
-        column: column,
-        digit: digit,
-    };
-    made(board, journal, m)
+    made(board, journal, Move::WriteMark { row, column, digit })
 }
 
+#[tactic(auto, unfolding(play::specs::Play::strike_mark_of))]
 pub fn pawdoku_strike_mark(
     board: Board,
     journal: &mut [u8],
@@ -72,12 +63,7 @@ pub fn pawdoku_strike_mark(
     ensures value { result ≡ (strike_mark_of board journal.old row column digit).answer }
     ensures journal_after { journal.new ≡ (strike_mark_of board journal.old row column digit).journal }
 {
-    let m = Move::StrikeMark {
-        row: row,
-        column: column,
-        digit: digit,
-    };
-    made(board, journal, m)
+    made(board, journal, Move::StrikeMark { row, column, digit })
 }
 
 pub fn pawdoku_undo(board: Board, journal: &[u8]) -> Answer

@@ -1,6 +1,5 @@
 -- `pawdoku::slots::pawdoku_latest` meets its contract.
 -- Assumes nothing.
-use mathlib.Core.Path.{ap}
 use native.Mathlib.Omega.{arith}
 use denote.Bor.{Bor}
 use mathlib.Core.List.{List}
