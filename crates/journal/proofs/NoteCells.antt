@@ -15,11 +15,12 @@ use lib.ListN.{length, get_or}
 use lib.Seq.{ext_get_or}
 use Rattle.sudoku.specs.Tests.{pick, both, either, bit}
 use Rattle.sudoku.specs.Grid.{in_range, at, put}
-use Rattle.sudoku.proofs.Walks.{by_test, bit_le, not_both_ways, pick_true, pick_false, both_true, both_left, both_right, both_first, both_second, both_false_left, both_false_right, either_left, either_right, either_first, either_second, either_false_left, either_false_right, either_cases, Entry}
+use Rattle.sudoku.proofs.Walks.{by_test, bit_le, not_both_ways, pick_true, pick_false, both_true, both_left, both_right, both_second, both_false_right, either_left, either_right, either_first, either_second, either_false_left, either_false_right, either_cases, Entry}
 use Rattle.sudoku.proofs.Grid.{at_put_within, length_put, put_put, put_at_lem}
 use Rattle.note.specs.Note.{contains, with_mark, without, is_note}
 use Rattle.note.proofs.Note.{contains_struck, contains_written, is_note_with, is_note_without, same_marks, strike_write, write_strike}
 use Rattle.journal.specs.State.{write_at, strike_at, strike_all, holders, lowest, strike_masked, write_masked, every_masked}
+use Rattle.journal.specs.Code.Marks.{MarkLaws, write_laws, strike_laws}
 
 -- ---- the words of this page
 
@@ -159,283 +160,233 @@ holders_small notes d [] = omega arith
 holders_small notes d (cell ∷ cells) =
     omega (arith, pow-suc 2 (length cells), bit_le (contains (at notes cell) d), holders_small notes d cells)
 
--- ---- striking and writing at one cell, mark by mark
+-- ---- a change at one cell and at the cells of a mask, for both changes
 
-module _ (notes : List ℕ) (cell d n m : ℕ) (from : 1 ≤ cell) (to : cell ≤ length notes) (n-from : 1 ≤ n) where
-  pub strike_at_mark : contains (at (strike_at notes cell d) n) m ≡ both (contains (at notes n) m) (not (both (eqb m d) (eqb cell n)))
-  unfolding strike_at
-  strike_at_mark =
-      ap (λ (x : ℕ). contains x m) (at_put_within notes cell n (without (at notes cell) d) from to n-from)
-      ∙ by_test (eqb cell n)
-      (λ e. ap (λ (x : ℕ). contains x m)
-      (pick_true (eqb cell n) (without (at notes cell) d) (at notes n) e ∙ ap (λ (k : ℕ). without (at notes k) d) (eqb-true cell n e))
-      ∙ contains_struck (at notes n) d m
-      ∙ ap (λ (t : Bool). both (contains (at notes n) m) (not t)) (sym (both_second (eqb m d) (eqb cell n) e)))
-      (λ e. ap (λ (x : ℕ). contains x m) (pick_false (eqb cell n) (without (at notes cell) d) (at notes n) e)
-      ∙ sym
-      (both_second (contains (at notes n) m) (not (both (eqb m d) (eqb cell n))) (ap not (both_false_right (eqb m d) (eqb cell n) e))))
-
-  pub write_at_mark : in_range d ≡ true → contains (at (write_at notes cell d) n) m ≡ either (contains (at notes n) m) (both (eqb m d) (eqb cell n))
-  unfolding write_at
-  write_at_mark r =
-      ap (λ (x : ℕ). contains x m) (at_put_within notes cell n (with_mark (at notes cell) d) from to n-from)
-      ∙ by_test (eqb cell n)
-      (λ e. ap (λ (x : ℕ). contains x m)
-      (pick_true (eqb cell n) (with_mark (at notes cell) d) (at notes n) e ∙ ap (λ (k : ℕ). with_mark (at notes k) d) (eqb-true cell n e))
-      ∙ contains_written (at notes n) d m r
-      ∙ ap (λ (t : Bool). either (contains (at notes n) m) t) (sym (both_second (eqb m d) (eqb cell n) e)))
-      (λ e. ap (λ (x : ℕ). contains x m) (pick_false (eqb cell n) (with_mark (at notes cell) d) (at notes n) e)
-      ∙ sym (either_first (contains (at notes n) m) (both (eqb m d) (eqb cell n)) (both_false_right (eqb m d) (eqb cell n) e)))
-
-  -- notes stay notes
-  pub strike_at_note : is_note (at notes cell) ≡ true → is_note (at notes n) ≡ true → is_note (at (strike_at notes cell d) n) ≡ true
-  unfolding strike_at
-  strike_at_note p q =
-      ap is_note (at_put_within notes cell n (without (at notes cell) d) from to n-from)
-      ∙ by_test (eqb cell n)
-      (λ e. ap is_note (pick_true (eqb cell n) (without (at notes cell) d) (at notes n) e) ∙ is_note_without (at notes cell) d p)
-      (λ e. ap is_note (pick_false (eqb cell n) (without (at notes cell) d) (at notes n) e) ∙ q)
-
-  pub write_at_note : is_note (at notes cell) ≡ true → is_note (at notes n) ≡ true → is_note (at (write_at notes cell d) n) ≡ true
-  unfolding write_at
-  write_at_note p q =
-      ap is_note (at_put_within notes cell n (with_mark (at notes cell) d) from to n-from)
-      ∙ by_test (eqb cell n)
-      (λ e. ap is_note (pick_true (eqb cell n) (with_mark (at notes cell) d) (at notes n) e) ∙ is_note_with (at notes cell) d p)
-      (λ e. ap is_note (pick_false (eqb cell n) (with_mark (at notes cell) d) (at notes n) e) ∙ q)
-
-pub length_strike_at : (notes : List ℕ) (cell d : ℕ) → length (strike_at notes cell d) ≡ length notes
-unfolding strike_at
-length_strike_at notes cell d = length_put notes cell (without (at notes cell) d)
-
-pub length_write_at : (notes : List ℕ) (cell d : ℕ) → length (write_at notes cell d) ≡ length notes
-unfolding write_at
-length_write_at notes cell d = length_put notes cell (with_mark (at notes cell) d)
-
--- the same where the mask's lowest bit says so
-module _ (t : Bool) (notes : List ℕ) (cell d n m : ℕ) (from : 1 ≤ cell) (to : cell ≤ length notes) (n-from : 1 ≤ n) where
-  pick_strike : contains (at (pick t (strike_at notes cell d) notes) n) m ≡ both (contains (at notes n) m) (not (both (eqb m d) (both t (eqb cell n))))
-  pick_strike =
-      by_test t
-      (λ e. ap (λ (l : List ℕ). contains (at l n) m) (pick_true t (strike_at notes cell d) notes e)
-      ∙ strike_at_mark notes cell d n m from to n-from
-      ∙ ap (λ (b : Bool). both (contains (at notes n) m) (not (both (eqb m d) b))) (sym (both_first t (eqb cell n) e)))
-      (λ e. ap (λ (l : List ℕ). contains (at l n) m) (pick_false t (strike_at notes cell d) notes e)
-      ∙ sym
-      (both_second (contains (at notes n) m) (not (both (eqb m d) (both t (eqb cell n))))
-      (ap not (both_false_right (eqb m d) (both t (eqb cell n)) (both_false_left t (eqb cell n) e)))))
-
-  pick_write : in_range d ≡ true
-      → contains (at (pick t (write_at notes cell d) notes) n) m ≡ either (contains (at notes n) m) (both (eqb m d) (both t (eqb cell n)))
-  pick_write r =
-      by_test t
-      (λ e. ap (λ (l : List ℕ). contains (at l n) m) (pick_true t (write_at notes cell d) notes e)
-      ∙ write_at_mark notes cell d n m from to n-from r
-      ∙ ap (λ (b : Bool). either (contains (at notes n) m) (both (eqb m d) b)) (sym (both_first t (eqb cell n) e)))
-      (λ e. ap (λ (l : List ℕ). contains (at l n) m) (pick_false t (write_at notes cell d) notes e)
-      ∙ sym
-      (either_first (contains (at notes n) m) (both (eqb m d) (both t (eqb cell n)))
-      (both_false_right (eqb m d) (both t (eqb cell n)) (both_false_left t (eqb cell n) e))))
+both_either : (e a b : Bool) → either (both e a) (both e b) ≡ both e (either a b)
+unfolding both either
+both_either true a b = refl
+both_either false a b = refl
 
 pub pick_either : {A : Type 0} (P : A → Type 0) (t : Bool) (a b : A) → P a → P b → P (pick t a b)
 unfolding pick
 pick_either P true a b p q = p
 pick_either P false a b p q = q
 
--- ---- striking and writing at each of the cells, mark by mark
+-- notes of a length
+record Kept (size : ℕ) (notes : List ℕ) : Type 0 where
+  long : length notes ≡ size
+  are : AreNotes notes
 
-none_struck : (x e : Bool) → x ≡ both x (not (both e false))
-unfolding both
-none_struck true true = refl
-none_struck true false = refl
-none_struck false e = refl
+module _ {after : ℕ → ℕ → ℕ} {fits : ℕ → ℕ → Bool} {at_cell : List ℕ → ℕ → ℕ → List ℕ} {masked : List ℕ → ℕ → ℕ → List ℕ → List ℕ} {fits_each : List ℕ → ℕ → ℕ → List ℕ → Bool}
+    (laws : MarkLaws after fits at_cell masked fits_each) where
+  length_at : (notes : List ℕ) (cell d : ℕ) → length (at_cell notes cell d) ≡ length notes
+  length_at notes cell d = rw (laws.cell notes cell d) (length_put notes cell (after (at notes cell) d))
 
-struck_joined : (x e a b : Bool) → both (both x (not (both e a))) (not (both e b)) ≡ both x (not (both e (either a b)))
+  length_masked : (notes : List ℕ) (d mask : ℕ) (cells : List ℕ) → length (masked notes d mask cells) ≡ length notes
+  length_masked notes d mask [] = ap length (laws.none notes d mask)
+  length_masked notes d mask (cell ∷ cells) =
+      ap length (laws.more notes d mask cell cells)
+      ∙ length_masked (pick (lowest mask) (at_cell notes cell d) notes) d (mask / 2) cells
+      ∙ pick_either (λ (l : List ℕ). length l ≡ length notes) (lowest mask) (at_cell notes cell d) notes (length_at notes cell d) refl
+
+  -- cells of the notes stay so
+  within_after : (notes : List ℕ) (cell d : ℕ) (t : Bool) (cells : List ℕ) → Within (length notes) (cell ∷ cells) → Within (length (pick t (at_cell notes cell d) notes)) cells
+  within_after notes cell d t cells w =
+      pick_either (λ (l : List ℕ). Within (length l) cells) t (at_cell notes cell d) notes
+      (within_size (length notes) (length (at_cell notes cell d)) cells (sym (length_at notes cell d)) (within_rest (length notes) cell cells w))
+      (within_rest (length notes) cell cells w)
+
+  -- a note after a change at a cell, which may be its own
+  at_after : (notes : List ℕ) (cell d n : ℕ) → 1 ≤ cell → cell ≤ length notes → 1 ≤ n → at (at_cell notes cell d) n ≡ pick (eqb cell n) (after (at notes n) d) (at notes n)
+  at_after notes cell d n from to n-from =
+      ap (λ (l : List ℕ). at l n) (laws.cell notes cell d)
+      ∙ at_put_within notes cell n (after (at notes cell) d) from to n-from
+      ∙ by_test (eqb cell n) (λ e. ap (λ (k : ℕ). pick (eqb cell n) (after (at notes k) d) (at notes n)) (eqb-true cell n e))
+      (λ e. pick_false (eqb cell n) (after (at notes cell) d) (at notes n) e ∙ sym (pick_false (eqb cell n) (after (at notes n) d) (at notes n) e))
+
+  -- a note elsewhere stays as it is
+  masked_elsewhere : (notes : List ℕ) (d mask : ℕ) (cells : List ℕ) (n : ℕ) → Within (length notes) cells → 1 ≤ n → is_in n cells ≡ false
+      → at (masked notes d mask cells) n ≡ at notes n
+  unfolding is_in
+  masked_elsewhere notes d mask [] n w f off = ap (λ (l : List ℕ). at l n) (laws.none notes d mask)
+  masked_elsewhere notes d mask (cell ∷ cells) n w f off =
+      ap (λ (l : List ℕ). at l n) (laws.more notes d mask cell cells)
+      ∙ masked_elsewhere (pick (lowest mask) (at_cell notes cell d) notes) d (mask / 2) cells n (within_after notes cell d (lowest mask) cells w) f
+      (either_false_right (eqb cell n) (is_in n cells) off)
+      ∙ pick_either (λ (l : List ℕ). at l n ≡ at notes n) (lowest mask) (at_cell notes cell d) notes
+      (at_after notes cell d n (w 0 (omega arith)).0 (w 0 (omega arith)).1 f
+      ∙ pick_false (eqb cell n) (after (at notes n) d) (at notes n) (either_false_left (eqb cell n) (is_in n cells) off)) refl
+
+  -- notes stay notes, where each does
+  module _ (keeps : (note d : ℕ) → is_note note ≡ true → is_note (after note d) ≡ true) (size : ℕ) where
+    kept_at : (notes : List ℕ) (cell d : ℕ) → 1 ≤ cell → cell ≤ size → Kept size notes → Kept size (at_cell notes cell d)
+    kept_at notes cell d f t k =
+        record {
+          long = length_at notes cell d ∙ k.long;
+          are = λ n h.
+              ap is_note (at_after notes cell d n f (omega (arith, k.long)) h)
+              ∙ pick_either (λ (x : ℕ). is_note x ≡ true) (eqb cell n) (after (at notes n) d) (at notes n) (keeps (at notes n) d (k.are n h)) (k.are n h);
+        }
+
+    kept_masked : (notes : List ℕ) (d mask : ℕ) (cells : List ℕ) → Within size cells → Kept size notes → Kept size (masked notes d mask cells)
+    kept_masked notes d mask [] w k = rw (laws.none notes d mask) k
+    kept_masked notes d mask (cell ∷ cells) w k =
+        rw (laws.more notes d mask cell cells)
+        (kept_masked (pick (lowest mask) (at_cell notes cell d) notes) d (mask / 2) cells (within_rest size cell cells w)
+        (pick_either (λ (l : List ℕ). Kept size l) (lowest mask) (at_cell notes cell d) notes (kept_at notes cell d (w 0 (omega arith)).0 (w 0 (omega arith)).1 k) k))
+
+  -- mark by mark: what `marks` says of one note, of those at the cells
+  module _ (d : ℕ) (joins : Bool → Bool → Bool) (none : (x : Bool) → joins x false ≡ x) (more : (x a b : Bool) → joins (joins x a) b ≡ joins x (either a b))
+      (marks : (note m : ℕ) → contains (after note d) m ≡ joins (contains note m) (eqb m d)) where
+    at_mark : (notes : List ℕ) (cell n m : ℕ) → 1 ≤ cell → cell ≤ length notes → 1 ≤ n
+        → contains (at (at_cell notes cell d) n) m ≡ joins (contains (at notes n) m) (both (eqb m d) (eqb cell n))
+    at_mark notes cell n m from to n-from =
+        ap (λ (x : ℕ). contains x m) (at_after notes cell d n from to n-from)
+        ∙ by_test (eqb cell n)
+        (λ e. ap (λ (x : ℕ). contains x m) (pick_true (eqb cell n) (after (at notes n) d) (at notes n) e)
+        ∙ marks (at notes n) m
+        ∙ ap (joins (contains (at notes n) m)) (sym (both_second (eqb m d) (eqb cell n) e)))
+        (λ e. ap (λ (x : ℕ). contains x m) (pick_false (eqb cell n) (after (at notes n) d) (at notes n) e)
+        ∙ sym (none (contains (at notes n) m))
+        ∙ ap (joins (contains (at notes n) m)) (sym (both_false_right (eqb m d) (eqb cell n) e)))
+
+    pick_mark : (t : Bool) (notes : List ℕ) (cell n m : ℕ) → 1 ≤ cell → cell ≤ length notes → 1 ≤ n
+        → contains (at (pick t (at_cell notes cell d) notes) n) m ≡ joins (contains (at notes n) m) (both (eqb m d) (both t (eqb cell n)))
+    unfolding pick both
+    pick_mark true notes cell n m from to n-from = at_mark notes cell n m from to n-from
+    pick_mark false notes cell n m from to n-from =
+        sym (none (contains (at notes n) m)) ∙ ap (joins (contains (at notes n) m)) (sym (both_false_right (eqb m d) false refl))
+
+    masked_mark : (notes : List ℕ) (mask : ℕ) (cells : List ℕ) (n m : ℕ) → Within (length notes) cells → 1 ≤ n
+        → contains (at (masked notes d mask cells) n) m ≡ joins (contains (at notes n) m) (both (eqb m d) (is_masked mask n cells))
+    unfolding is_masked
+    masked_mark notes mask [] n m w f =
+        ap (λ (l : List ℕ). contains (at l n) m) (laws.none notes d mask)
+        ∙ sym (none (contains (at notes n) m))
+        ∙ ap (joins (contains (at notes n) m)) (sym (both_false_right (eqb m d) false refl))
+    masked_mark notes mask (cell ∷ cells) n m w f =
+        ap (λ (l : List ℕ). contains (at l n) m) (laws.more notes d mask cell cells)
+        ∙ masked_mark (pick (lowest mask) (at_cell notes cell d) notes) (mask / 2) cells n m (within_after notes cell d (lowest mask) cells w) f
+        ∙ ap (λ (t : Bool). joins t (both (eqb m d) (is_masked (mask / 2) n cells)))
+        (pick_mark (lowest mask) notes cell n m (w 0 (omega arith)).0 (w 0 (omega arith)).1 f)
+        ∙ more (contains (at notes n) m) (both (eqb m d) (both (lowest mask) (eqb cell n))) (both (eqb m d) (is_masked (mask / 2) n cells))
+        ∙ ap (joins (contains (at notes n) m)) (both_either (eqb m d) (both (lowest mask) (eqb cell n)) (is_masked (mask / 2) n cells))
+
+-- ---- a mark struck leaves the others, a mark written joins them
+
+strikes_none : (x : Bool) → both x (not false) ≡ x
+strikes_none x = both_second x (not false) refl
+
+strikes_more : (x a b : Bool) → both (both x (not a)) (not b) ≡ both x (not (either a b))
 unfolding both either
-struck_joined false e a b = refl
-struck_joined true false a b = refl
-struck_joined true true true b = refl
-struck_joined true true false b = refl
+strikes_more false a b = refl
+strikes_more true true b = refl
+strikes_more true false b = refl
 
-none_written : (x e : Bool) → x ≡ either x (both e false)
-unfolding both either
-none_written true e = refl
-none_written false true = refl
-none_written false false = refl
+writes_none : (x : Bool) → either x false ≡ x
+writes_none x = either_first x false refl
 
-written_joined : (x e a b : Bool) → either (either x (both e a)) (both e b) ≡ either x (both e (either a b))
-unfolding both either
-written_joined true e a b = refl
-written_joined false false a b = refl
-written_joined false true true b = refl
-written_joined false true false b = refl
+writes_more : (x a b : Bool) → either (either x a) b ≡ either x (either a b)
+unfolding either
+writes_more true a b = refl
+writes_more false a b = refl
+
+pub strike_at_mark : (notes : List ℕ) (cell d n m : ℕ) → 1 ≤ cell → cell ≤ length notes → 1 ≤ n
+    → contains (at (strike_at notes cell d) n) m ≡ both (contains (at notes n) m) (not (both (eqb m d) (eqb cell n)))
+strike_at_mark notes cell d n m =
+    at_mark strike_laws d (λ x h. both x (not h)) strikes_none strikes_more (λ note m. contains_struck note d m) notes cell n m
+
+pub write_at_mark : (notes : List ℕ) (cell d n m : ℕ) → 1 ≤ cell → cell ≤ length notes → 1 ≤ n → in_range d ≡ true
+    → contains (at (write_at notes cell d) n) m ≡ either (contains (at notes n) m) (both (eqb m d) (eqb cell n))
+write_at_mark notes cell d n m from to n-from r =
+    at_mark write_laws d either writes_none writes_more (λ note m. contains_written note d m r) notes cell n m from to n-from
+
+-- and after striking, or writing, at those that the mask names
+pub strike_masked_mark : (notes : List ℕ) (d mask : ℕ) (cells : List ℕ) (n m : ℕ) → Within (length notes) cells → 1 ≤ n
+    → contains (at (strike_masked notes d mask cells) n) m ≡ both (contains (at notes n) m) (not (both (eqb m d) (is_masked mask n cells)))
+strike_masked_mark notes d mask cells n m =
+    masked_mark strike_laws d (λ x h. both x (not h)) strikes_none strikes_more (λ note m. contains_struck note d m) notes mask cells n m
+
+pub write_masked_mark : (notes : List ℕ) (d mask : ℕ) (cells : List ℕ) (n m : ℕ) → Within (length notes) cells → 1 ≤ n → in_range d ≡ true
+    → contains (at (write_masked notes d mask cells) n) m ≡ either (contains (at notes n) m) (both (eqb m d) (is_masked mask n cells))
+write_masked_mark notes d mask cells n m w f r =
+    masked_mark write_laws d either writes_none writes_more (λ note m. contains_written note d m r) notes mask cells n m w f
+
+-- ---- striking at all of the cells
+
+struck_within : (notes : List ℕ) (cell d : ℕ) (cells : List ℕ) → Within (length notes) (cell ∷ cells) → Within (length (strike_at notes cell d)) cells
+struck_within notes cell d cells w =
+    within_size (length notes) (length (strike_at notes cell d)) cells (sym (length_at strike_laws notes cell d)) (within_rest (length notes) cell cells w)
 
 -- a mark stands after striking at all the cells where it stood,
 -- unless it is the mark struck and the place one of the cells
 pub strike_all_mark : (notes : List ℕ) (d : ℕ) (cells : List ℕ) (n m : ℕ) → Within (length notes) cells → 1 ≤ n
     → contains (at (strike_all notes d cells) n) m ≡ both (contains (at notes n) m) (not (both (eqb m d) (is_in n cells)))
 unfolding strike_all is_in
-strike_all_mark notes d [] n m w f = none_struck (contains (at notes n) m) (eqb m d)
+strike_all_mark notes d [] n m w f =
+    sym (strikes_none (contains (at notes n) m)) ∙ ap (λ (t : Bool). both (contains (at notes n) m) (not t)) (sym (both_false_right (eqb m d) false refl))
 strike_all_mark notes d (cell ∷ cells) n m w f =
-    strike_all_mark (strike_at notes cell d) d cells n m
-    (within_size (length notes) (length (strike_at notes cell d)) cells (sym (length_strike_at notes cell d)) (within_rest (length notes) cell cells w)) f
+    strike_all_mark (strike_at notes cell d) d cells n m (struck_within notes cell d cells w) f
     ∙ ap (λ (t : Bool). both t (not (both (eqb m d) (is_in n cells))))
     (strike_at_mark notes cell d n m (w 0 (omega arith)).0 (w 0 (omega arith)).1 f)
-    ∙ struck_joined (contains (at notes n) m) (eqb m d) (eqb cell n) (is_in n cells)
-
--- and after striking, or writing, at those that the mask names
-pub strike_masked_mark : (notes : List ℕ) (d mask : ℕ) (cells : List ℕ) (n m : ℕ) → Within (length notes) cells → 1 ≤ n
-    → contains (at (strike_masked notes d mask cells) n) m ≡ both (contains (at notes n) m) (not (both (eqb m d) (is_masked mask n cells)))
-unfolding strike_masked is_masked
-strike_masked_mark notes d mask [] n m w f = none_struck (contains (at notes n) m) (eqb m d)
-strike_masked_mark notes d mask (cell ∷ cells) n m w f =
-    strike_masked_mark (pick (lowest mask) (strike_at notes cell d) notes) d (mask / 2) cells n m
-    (pick_either (λ (l : List ℕ). Within (length l) cells) (lowest mask) (strike_at notes cell d) notes
-    (within_size (length notes) (length (strike_at notes cell d)) cells (sym (length_strike_at notes cell d)) (within_rest (length notes) cell cells w))
-    (within_rest (length notes) cell cells w)) f
-    ∙ ap (λ (t : Bool). both t (not (both (eqb m d) (is_masked (mask / 2) n cells))))
-    (pick_strike (lowest mask) notes cell d n m (w 0 (omega arith)).0 (w 0 (omega arith)).1 f)
-    ∙ struck_joined (contains (at notes n) m) (eqb m d) (both (lowest mask) (eqb cell n)) (is_masked (mask / 2) n cells)
-
-pub write_masked_mark : (notes : List ℕ) (d mask : ℕ) (cells : List ℕ) (n m : ℕ) → Within (length notes) cells → 1 ≤ n → in_range d ≡ true
-    → contains (at (write_masked notes d mask cells) n) m ≡ either (contains (at notes n) m) (both (eqb m d) (is_masked mask n cells))
-unfolding write_masked is_masked
-write_masked_mark notes d mask [] n m w f r = none_written (contains (at notes n) m) (eqb m d)
-write_masked_mark notes d mask (cell ∷ cells) n m w f r =
-    write_masked_mark (pick (lowest mask) (write_at notes cell d) notes) d (mask / 2) cells n m
-    (pick_either (λ (l : List ℕ). Within (length l) cells) (lowest mask) (write_at notes cell d) notes
-    (within_size (length notes) (length (write_at notes cell d)) cells (sym (length_write_at notes cell d)) (within_rest (length notes) cell cells w))
-    (within_rest (length notes) cell cells w)) f r
-    ∙ ap (λ (t : Bool). either t (both (eqb m d) (is_masked (mask / 2) n cells)))
-    (pick_write (lowest mask) notes cell d n m (w 0 (omega arith)).0 (w 0 (omega arith)).1 f r)
-    ∙ written_joined (contains (at notes n) m) (eqb m d) (both (lowest mask) (eqb cell n)) (is_masked (mask / 2) n cells)
-
--- ---- a note elsewhere stays as it is
-
-module _ (notes : List ℕ) (cell d n : ℕ) (from : 1 ≤ cell) (to : cell ≤ length notes) (n-from : 1 ≤ n) (off : eqb cell n ≡ false) where
-  strike_at_elsewhere : at (strike_at notes cell d) n ≡ at notes n
-  unfolding strike_at
-  strike_at_elsewhere =
-      at_put_within notes cell n (without (at notes cell) d) from to n-from ∙ pick_false (eqb cell n) (without (at notes cell) d) (at notes n) off
-
-  write_at_elsewhere : at (write_at notes cell d) n ≡ at notes n
-  unfolding write_at
-  write_at_elsewhere =
-      at_put_within notes cell n (with_mark (at notes cell) d) from to n-from ∙ pick_false (eqb cell n) (with_mark (at notes cell) d) (at notes n) off
+    ∙ strikes_more (contains (at notes n) m) (both (eqb m d) (eqb cell n)) (both (eqb m d) (is_in n cells))
+    ∙ ap (λ (t : Bool). both (contains (at notes n) m) (not t)) (both_either (eqb m d) (eqb cell n) (is_in n cells))
 
 pub strike_all_elsewhere : (notes : List ℕ) (d : ℕ) (cells : List ℕ) (n : ℕ) → Within (length notes) cells → 1 ≤ n → is_in n cells ≡ false
     → at (strike_all notes d cells) n ≡ at notes n
 unfolding strike_all is_in
 strike_all_elsewhere notes d [] n w f off = refl
 strike_all_elsewhere notes d (cell ∷ cells) n w f off =
-    strike_all_elsewhere (strike_at notes cell d) d cells n
-    (within_size (length notes) (length (strike_at notes cell d)) cells (sym (length_strike_at notes cell d)) (within_rest (length notes) cell cells w)) f
-    (either_false_right (eqb cell n) (is_in n cells) off)
-    ∙ strike_at_elsewhere notes cell d n (w 0 (omega arith)).0 (w 0 (omega arith)).1 f (either_false_left (eqb cell n) (is_in n cells) off)
-
-pub strike_masked_elsewhere : (notes : List ℕ) (d mask : ℕ) (cells : List ℕ) (n : ℕ) → Within (length notes) cells → 1 ≤ n → is_in n cells ≡ false
-    → at (strike_masked notes d mask cells) n ≡ at notes n
-unfolding strike_masked is_in
-strike_masked_elsewhere notes d mask [] n w f off = refl
-strike_masked_elsewhere notes d mask (cell ∷ cells) n w f off =
-    strike_masked_elsewhere (pick (lowest mask) (strike_at notes cell d) notes) d (mask / 2) cells n
-    (pick_either (λ (l : List ℕ). Within (length l) cells) (lowest mask) (strike_at notes cell d) notes
-    (within_size (length notes) (length (strike_at notes cell d)) cells (sym (length_strike_at notes cell d)) (within_rest (length notes) cell cells w))
-    (within_rest (length notes) cell cells w)) f (either_false_right (eqb cell n) (is_in n cells) off)
-    ∙ pick_either (λ (l : List ℕ). at l n ≡ at notes n) (lowest mask) (strike_at notes cell d) notes
-    (strike_at_elsewhere notes cell d n (w 0 (omega arith)).0 (w 0 (omega arith)).1 f (either_false_left (eqb cell n) (is_in n cells) off)) refl
-
-pub write_masked_elsewhere : (notes : List ℕ) (d mask : ℕ) (cells : List ℕ) (n : ℕ) → Within (length notes) cells → 1 ≤ n → is_in n cells ≡ false
-    → at (write_masked notes d mask cells) n ≡ at notes n
-unfolding write_masked is_in
-write_masked_elsewhere notes d mask [] n w f off = refl
-write_masked_elsewhere notes d mask (cell ∷ cells) n w f off =
-    write_masked_elsewhere (pick (lowest mask) (write_at notes cell d) notes) d (mask / 2) cells n
-    (pick_either (λ (l : List ℕ). Within (length l) cells) (lowest mask) (write_at notes cell d) notes
-    (within_size (length notes) (length (write_at notes cell d)) cells (sym (length_write_at notes cell d)) (within_rest (length notes) cell cells w))
-    (within_rest (length notes) cell cells w)) f (either_false_right (eqb cell n) (is_in n cells) off)
-    ∙ pick_either (λ (l : List ℕ). at l n ≡ at notes n) (lowest mask) (write_at notes cell d) notes
-    (write_at_elsewhere notes cell d n (w 0 (omega arith)).0 (w 0 (omega arith)).1 f (either_false_left (eqb cell n) (is_in n cells) off)) refl
-
--- ---- lengths stay, and notes stay notes
+    strike_all_elsewhere (strike_at notes cell d) d cells n (struck_within notes cell d cells w) f (either_false_right (eqb cell n) (is_in n cells) off)
+    ∙ at_after strike_laws notes cell d n (w 0 (omega arith)).0 (w 0 (omega arith)).1 f
+    ∙ pick_false (eqb cell n) (without (at notes n) d) (at notes n) (either_false_left (eqb cell n) (is_in n cells) off)
 
 pub length_strike_all : (notes : List ℕ) (d : ℕ) (cells : List ℕ) → length (strike_all notes d cells) ≡ length notes
 unfolding strike_all
 length_strike_all notes d [] = refl
-length_strike_all notes d (cell ∷ cells) = length_strike_all (strike_at notes cell d) d cells ∙ length_strike_at notes cell d
-
-pub length_strike_masked : (notes : List ℕ) (d mask : ℕ) (cells : List ℕ) → length (strike_masked notes d mask cells) ≡ length notes
-unfolding strike_masked
-length_strike_masked notes d mask [] = refl
-length_strike_masked notes d mask (cell ∷ cells) =
-    length_strike_masked (pick (lowest mask) (strike_at notes cell d) notes) d (mask / 2) cells
-    ∙ pick_either (λ (l : List ℕ). length l ≡ length notes) (lowest mask) (strike_at notes cell d) notes (length_strike_at notes cell d) refl
-
-pub length_write_masked : (notes : List ℕ) (d mask : ℕ) (cells : List ℕ) → length (write_masked notes d mask cells) ≡ length notes
-unfolding write_masked
-length_write_masked notes d mask [] = refl
-length_write_masked notes d mask (cell ∷ cells) =
-    length_write_masked (pick (lowest mask) (write_at notes cell d) notes) d (mask / 2) cells
-    ∙ pick_either (λ (l : List ℕ). length l ≡ length notes) (lowest mask) (write_at notes cell d) notes (length_write_at notes cell d) refl
-
--- notes of a length
-record Kept (size : ℕ) (notes : List ℕ) : Type 0 where
-  long : length notes ≡ size
-  are : AreNotes notes
-
-kept_strike : (size : ℕ) (notes : List ℕ) (cell d : ℕ) → 1 ≤ cell → cell ≤ size → Kept size notes → Kept size (strike_at notes cell d)
-kept_strike size notes cell d f t k =
-    record {
-      long = length_strike_at notes cell d ∙ k.long;
-      are = λ n h. strike_at_note notes cell d n 0 f (omega (arith, k.long)) h (k.are cell f) (k.are n h);
-    }
-
-kept_write : (size : ℕ) (notes : List ℕ) (cell d : ℕ) → 1 ≤ cell → cell ≤ size → Kept size notes → Kept size (write_at notes cell d)
-kept_write size notes cell d f t k =
-    record {
-      long = length_write_at notes cell d ∙ k.long;
-      are = λ n h. write_at_note notes cell d n 0 f (omega (arith, k.long)) h (k.are cell f) (k.are n h);
-    }
+length_strike_all notes d (cell ∷ cells) = length_strike_all (strike_at notes cell d) d cells ∙ length_at strike_laws notes cell d
 
 kept_strike_all : (size : ℕ) (notes : List ℕ) (d : ℕ) (cells : List ℕ) → Within size cells → Kept size notes → Kept size (strike_all notes d cells)
 unfolding strike_all
 kept_strike_all size notes d [] w k = k
 kept_strike_all size notes d (cell ∷ cells) w k =
     kept_strike_all size (strike_at notes cell d) d cells (within_rest size cell cells w)
-    (kept_strike size notes cell d (w 0 (omega arith)).0 (w 0 (omega arith)).1 k)
+    (kept_at strike_laws is_note_without size notes cell d (w 0 (omega arith)).0 (w 0 (omega arith)).1 k)
 
-kept_strike_masked : (size : ℕ) (notes : List ℕ) (d mask : ℕ) (cells : List ℕ) → Within size cells → Kept size notes → Kept size (strike_masked notes d mask cells)
-unfolding strike_masked
-kept_strike_masked size notes d mask [] w k = k
-kept_strike_masked size notes d mask (cell ∷ cells) w k =
-    kept_strike_masked size (pick (lowest mask) (strike_at notes cell d) notes) d (mask / 2) cells (within_rest size cell cells w)
-    (pick_either (λ (l : List ℕ). Kept size l) (lowest mask) (strike_at notes cell d) notes (kept_strike size notes cell d (w 0 (omega arith)).0 (w 0 (omega arith)).1 k) k)
+-- ---- lengths stay, notes stay notes, and notes elsewhere stay as they are
 
-kept_write_masked : (size : ℕ) (notes : List ℕ) (d mask : ℕ) (cells : List ℕ) → Within size cells → Kept size notes → Kept size (write_masked notes d mask cells)
-unfolding write_masked
-kept_write_masked size notes d mask [] w k = k
-kept_write_masked size notes d mask (cell ∷ cells) w k =
-    kept_write_masked size (pick (lowest mask) (write_at notes cell d) notes) d (mask / 2) cells (within_rest size cell cells w)
-    (pick_either (λ (l : List ℕ). Kept size l) (lowest mask) (write_at notes cell d) notes (kept_write size notes cell d (w 0 (omega arith)).0 (w 0 (omega arith)).1 k) k)
+pub length_strike_at : (notes : List ℕ) (cell d : ℕ) → length (strike_at notes cell d) ≡ length notes
+length_strike_at = length_at strike_laws
+
+pub length_write_at : (notes : List ℕ) (cell d : ℕ) → length (write_at notes cell d) ≡ length notes
+length_write_at = length_at write_laws
+
+pub strike_masked_elsewhere : (notes : List ℕ) (d mask : ℕ) (cells : List ℕ) (n : ℕ) → Within (length notes) cells → 1 ≤ n → is_in n cells ≡ false
+    → at (strike_masked notes d mask cells) n ≡ at notes n
+strike_masked_elsewhere = masked_elsewhere strike_laws
+
+pub write_masked_elsewhere : (notes : List ℕ) (d mask : ℕ) (cells : List ℕ) (n : ℕ) → Within (length notes) cells → 1 ≤ n → is_in n cells ≡ false
+    → at (write_masked notes d mask cells) n ≡ at notes n
+write_masked_elsewhere = masked_elsewhere write_laws
 
 module _ (notes : List ℕ) (are : AreNotes notes) where
   kept : Kept (length notes) notes
   kept = record { long = refl; are = are }
 
   pub strike_at_notes : (cell d : ℕ) → 1 ≤ cell → cell ≤ length notes → AreNotes (strike_at notes cell d)
-  strike_at_notes cell d f t = (kept_strike (length notes) notes cell d f t kept).are
+  strike_at_notes cell d f t = (kept_at strike_laws is_note_without (length notes) notes cell d f t kept).are
 
   pub write_at_notes : (cell d : ℕ) → 1 ≤ cell → cell ≤ length notes → AreNotes (write_at notes cell d)
-  write_at_notes cell d f t = (kept_write (length notes) notes cell d f t kept).are
+  write_at_notes cell d f t = (kept_at write_laws is_note_with (length notes) notes cell d f t kept).are
 
   pub strike_all_notes : (d : ℕ) (cells : List ℕ) → Within (length notes) cells → AreNotes (strike_all notes d cells)
   strike_all_notes d cells w = (kept_strike_all (length notes) notes d cells w kept).are
 
   pub strike_masked_notes : (d mask : ℕ) (cells : List ℕ) → Within (length notes) cells → AreNotes (strike_masked notes d mask cells)
-  strike_masked_notes d mask cells w = (kept_strike_masked (length notes) notes d mask cells w kept).are
+  strike_masked_notes d mask cells w = (kept_masked strike_laws is_note_without (length notes) notes d mask cells w kept).are
 
   pub write_masked_notes : (d mask : ℕ) (cells : List ℕ) → Within (length notes) cells → AreNotes (write_masked notes d mask cells)
-  write_masked_notes d mask cells w = (kept_write_masked (length notes) notes d mask cells w kept).are
+  write_masked_notes d mask cells w = (kept_masked write_laws is_note_with (length notes) notes d mask cells w kept).are
 
 -- two lists of notes with the same marks are the same list
 pub notes_same : (l k : List ℕ) → length l ≡ length k → AreNotes l → AreNotes k
@@ -474,7 +425,7 @@ module _ (notes : List ℕ) (are : AreNotes notes) (d : ℕ) (cells : List ℕ) 
   pub strike_again : strike_masked notes d (holders notes d cells) cells ≡ strike_all notes d cells
   strike_again =
       notes_same (strike_masked notes d (holders notes d cells) cells) (strike_all notes d cells)
-      (length_strike_masked notes d (holders notes d cells) cells ∙ sym (length_strike_all notes d cells))
+      (length_masked strike_laws notes d (holders notes d cells) cells ∙ sym (length_strike_all notes d cells))
       (strike_masked_notes notes are d (holders notes d cells) cells w) (strike_all_notes notes are d cells w)
       (λ n m f r. strike_masked_mark notes d (holders notes d cells) cells n m w f
       ∙ ap (λ (t : Bool). both (contains (at notes n) m) (not (both (eqb m d) t))) (masked_holders notes d n cells)
@@ -485,7 +436,7 @@ module _ (notes : List ℕ) (are : AreNotes notes) (d : ℕ) (cells : List ℕ) 
   pub write_back : in_range d ≡ true → write_masked (strike_all notes d cells) d (holders notes d cells) cells ≡ notes
   write_back r =
       notes_same (write_masked (strike_all notes d cells) d (holders notes d cells) cells) notes
-      (length_write_masked (strike_all notes d cells) d (holders notes d cells) cells ∙ length_strike_all notes d cells)
+      (length_masked write_laws (strike_all notes d cells) d (holders notes d cells) cells ∙ length_strike_all notes d cells)
       (write_masked_notes (strike_all notes d cells) (strike_all_notes notes are d cells w) d (holders notes d cells) cells after) are
       (λ n m f q. write_masked_mark (strike_all notes d cells) d (holders notes d cells) cells n m after f r
       ∙ (λ j.

@@ -24,8 +24,8 @@ loop-cell-preserved g c =
     record {
       fits =
           turn.invariant.fits
-          ∙ fits_turn laws cells turn.cell-index h turn.notes _ _ turn.rest turn.ok _ step.fits step.changes;
-      changes = turn.invariant.changes ∙ masked_turn laws cells turn.cell-index h _ _ _ ∙ rw step.changes;
+          ∙ fits_turn laws cells turn.cell-index h turn.notes c.change_if-fits.new.notes c.args.digit turn.rest turn.ok c.change_if-fits.result step.fits step.changes;
+      changes = rw step.changes (turn.invariant.changes ∙ masked_turn laws cells turn.cell-index h turn.notes c.args.digit turn.rest);
     }
 
 pub returns-clause-fits : goal.returns-clause-fits
