@@ -4,12 +4,13 @@
 
 use puzzle::Refusal;
 
+pub mod error;
 pub mod read;
 pub mod replay;
 
 // The reading of one move; zeros beside a refusal.
 #[repr(C)]
-#[derive(Clone, Copy)]
+#[derive(Clone, Copy, PartialEq, Eq)]
 pub struct Reading {
     pub refusal: Refusal,
     // 2 place, 3 erase, 4 write mark, 5 strike mark

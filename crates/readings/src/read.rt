@@ -1,45 +1,41 @@
 // The reading of move k: what its slot holds, whether it is undone,
 // and the board as it stood after it. Refused by 1 2 14 35.
 ghost use Rattle.std.specs.Prelude.{◌≡◌};
+ghost use Rattle.puzzle.specs.Refusals.{told};
+ghost use Rattle.readings.specs.Errors.{reading_error_refusal};
 ghost use Rattle.readings.specs.Reading.{reading_refusal, reading as reading_at, no_reading, reading_of};
 
 use crate::Reading;
+use crate::error::ReadingError;
 use crate::replay::after;
 use board::Board;
-use board::value::lent_number;
+use board::value::lent;
 use journal::JOURNAL_BYTES;
 use journal::slots::slot_at;
-use play::sound::first_unsound;
+use play::sound::sound_slots;
 use puzzle::Refusal;
-use puzzle::answer::{accepted, refusal};
+use puzzle::answer::accepted;
 
-// Why a reading is refused: 1; 2; 14 of the first unsound slot of all that were made; 35.
-fn reading_refusal(board: Board, journal: &[u8], k: usize) -> Refusal
-    ensures { result ≡ reading_refusal board journal.now k }
+// Whether move k may be read: 1; 2; 14 of the first unsound slot of all that were made; 35.
+#[tactic(auto, using(board::proofs::Told::has_number), unfolding(crate::specs::Reading::reading_refusal, play::specs::Play::journal_refusal, puzzle::specs::Refusals::or_else, puzzle::specs::Refusals::refused_if, puzzle::specs::Refusals::is_accepted, sudoku::specs::Tests::both, sudoku::specs::Tests::pick))]
+fn reading_test(board: Board, journal: &[u8], k: usize) -> Result<(), ReadingError>
+    ensures { told reading_error_refusal result ≡ reading_refusal board journal.now k }
 {
-    let n = lent_number(board, journal.len() == JOURNAL_BYTES);
-    if n != 0 {
-        return refusal(n, 0, 0);
+    lent(board, journal.len() == JOURNAL_BYTES)?;
+    sound_slots(&board.given, journal, board.made)?;
+    if k == 0 || k > board.made {
+        return Err(ReadingError::NoSuchMove);
     }
-    let unsound = first_unsound(&board.given, journal, board.made);
-    if unsound.number != 0 {
-        return unsound;
-    }
-    if k == 0 {
-        return refusal(35, 0, 0);
-    }
-    if k > board.made {
-        return refusal(35, 0, 0);
-    }
-    accepted()
+    Ok(())
 }
 
 // What a refused reading hands back.
-fn no_reading(refused: Refusal) -> Reading
-    ensures { result ≡ no_reading refused }
+#[tactic(auto, unfolding(crate::specs::Reading::no_reading))]
+fn no_reading(refusal: Refusal) -> Reading
+    ensures { result ≡ no_reading refusal }
 {
     Reading {
-        refusal: refused,
+        refusal,
         kind: 0,
         row: 0,
         column: 0,
@@ -52,6 +48,7 @@ fn no_reading(refused: Refusal) -> Reading
 }
 
 // The reading of a move that was made. A move above the standing count is undone.
+#[tactic(auto, unfolding(crate::specs::Reading::reading, crate::specs::Reading::board_after, board::specs::Board::board_of, board::specs::Board::moved))]
 fn reading_at(board: Board, journal: &[u8], k: usize) -> Reading
     ensures { result ≡ reading_at board journal.now k }
 {
@@ -67,18 +64,18 @@ fn reading_at(board: Board, journal: &[u8], k: usize) -> Reading
         digit: slot.digit,
         undone: board.standing < k,
         index: k,
-        digits: digits,
-        notes: notes,
+        digits,
+        notes,
     }
 }
 
 // The reading of move k, counted from 1.
+#[tactic(auto, using(crate::proofs::Refused::refuses), unfolding(crate::specs::Reading::reading_of, puzzle::specs::Refusals::is_accepted, sudoku::specs::Tests::pick))]
 pub fn reading(board: Board, journal: &[u8], k: usize) -> Reading
     ensures { result ≡ reading_of board journal.now k }
 {
-    let refused = reading_refusal(board, journal, k);
-    if refused.number != 0 {
-        return no_reading(refused);
+    match reading_test(board, journal, k) {
+        Ok(()) => reading_at(board, journal, k),
+        Err(e) => no_reading(e.into()),
     }
-    reading_at(board, journal, k)
 }

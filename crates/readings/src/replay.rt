@@ -9,40 +9,34 @@ ghost use Rattle.readings.specs.Reading.{opening_board, board_after};
 use board::Board;
 use journal::slots::{is_given, slot_at};
 use puzzle::digit_at;
-use sudoku::CELLS;
 use undo::again_in;
 
 // The digit of a cell that is a given; 0 for any other.
+#[tactic(auto, unfolding(sudoku::specs::Tests::pick))]
 fn given_digit(digits: &[u8; 81], given: &[u8; 81], cell: usize) -> u8
     ensures { result ≡ pick (is_given given.now cell) (at digits.now cell) 0 }
 {
     if is_given(given, cell) {
-        return digit_at(digits, cell);
+        digit_at(digits, cell)
+    } else {
+        0
     }
-    0
 }
 
 // The digits of the givens alone.
-fn given_digits(digits: [u8; 81], given: &[u8; 81]) -> [u8; 81]
-    ensures { result ≡ listed (λ cell. pick (is_given given.now cell) (at digits cell) 0) 81 1 }
+fn given_digits(digits: &[u8; 81], given: &[u8; 81]) -> [u8; 81]
+    ensures { result ≡ listed (λ cell. pick (is_given given.now cell) (at digits.now cell) 0) 81 1 }
 {
-    let mut out = [0u8; 81];
-    let mut i: usize = 0;
-    while i < CELLS {
-        out[i] = given_digit(&digits, given, i + 1);
-        i += 1;
-    }
-    out
+    std::array::from_fn(|i| given_digit(digits, given, i + 1))
 }
 
 // The board's givens and empty notes.
+#[tactic(auto, unfolding(crate::specs::Reading::opening_board, crate::specs::Reading::opening_of, board::specs::Board::counts_of, board::specs::Board::board_of, board::specs::Board::moved))]
 fn opening(board: Board) -> Board
     ensures { result ≡ opening_board board }
 {
-    let kept = board.digits;
-    let digits = given_digits(kept, &board.given);
     let mut start = board;
-    start.digits = digits;
+    start.digits = given_digits(&board.digits, &board.given);
     start.notes = [0u16; 81];
     start.solved = 0;
     start
@@ -56,10 +50,8 @@ pub fn after(board: Board, journal: &[u8], k: usize) -> Board
     let mut digits = stood.digits;
     let mut notes = stood.notes;
     let mut solved = stood.solved;
-    let mut i: usize = 0;
-    while i < k {
+    for i in 0..k {
         solved = again_in(&mut digits, &mut notes, solved, slot_at(journal, i + 1));
-        i += 1;
     }
     stood.digits = digits;
     stood.notes = notes;

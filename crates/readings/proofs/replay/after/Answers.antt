@@ -28,7 +28,7 @@ pub loop-i-init : goal.loop-i-init
 unfolding state_of
 loop-i-init c =
     let a = c.args in
-    (omega arith, ap (λ (n : ℕ). run (apply_slot a.journal.now) (state_of c.opening-stood.result) n 1) {x = a.k} {y = a.k + 1 - 1} (omega arith))
+    ap (λ (n : ℕ). run (apply_slot a.journal.now) (state_of c.opening-stood.result) n 1) {x = a.k} {y = a.k + 1 - 1} (omega arith)
 
 pub loop-i-preserved : goal.loop-i-preserved
 unfolding apply_slot
@@ -36,12 +36,10 @@ loop-i-preserved c =
     let a = c.args in
     let turn = c.loop-i in
     let s = parts c.opening-stood.result.given turn.digits turn.notes turn.solved in
-    let applied = c.again_in-solved.ensures c.opening-stood.result.given ∙ ap (λ (x : Slot). perform_again s (move_of x) x.struck) c.slot_at.ensures in (
-      omega arith,
-      turn.invariant.1
-          ∙ run_more (apply_slot a.journal.now) s (a.k + 1) (turn.i + 1) (omega (arith, c.loop-i-test.true))
-          ∙ ap (λ (t : State). run (apply_slot a.journal.now) t (a.k + 1 - (turn.i + 1 + 1)) (turn.i + 1 + 1)) (sym applied),
-    )
+    let applied = c.again_in-solved.ensures c.opening-stood.result.given ∙ ap (λ (x : Slot). perform_again s (move_of x) x.struck) c.slot_at.ensures in
+    turn.invariant
+    ∙ run_more (apply_slot a.journal.now) s (a.k + 1) (turn.i + 1) (omega (arith, c.loop-i-test.true))
+    ∙ ap (λ (t : State). run (apply_slot a.journal.now) t (a.k + 1 - (turn.i + 1 + 1)) (turn.i + 1 + 1)) (sym applied)
 
 pub returns : goal.returns
 unfolding board_after state_after state_of counts_of board_of moved
@@ -53,7 +51,7 @@ returns c =
     let stood : s ≡ state_after a.board a.journal.now a.k =
     sym
     (ap (λ (t : State). run (apply_slot a.journal.now) t a.k 1) (sym (ap state_of opened.ensures ∙ opened_state a.board))
-    ∙ turn.invariant.1
+    ∙ turn.invariant
     ∙ run_all (apply_slot a.journal.now) s (a.k + 1) (turn.i + 1) (omega (arith, c.loop-i-test.false))) in
     ap (λ (t : State). moved opened.result t (counts_of opened.result)) stood
     ∙ ap (λ (b : Board). moved b (state_after a.board a.journal.now a.k) (counts_of b)) opened.ensures

