@@ -7,8 +7,9 @@ ghost use Rattle.sudoku.specs.Tests.{count};
 ghost use Rattle.sudoku.specs.Grid.{at};
 ghost use Rattle.puzzle.specs.Puzzle.{is_held, holds_digit, conflicts as conflicts_at, is_full, is_consistent, settled as settled_by, digits_left};
 
-use sudoku::{CELLS, PEERS_PER_CELL, SIDE, peers, wide};
-use units::{boxes_clear, columns_clear, rows_clear};
+use orders::{BOXES, ROWS};
+use sudoku::{SIDE, peers};
+use units::{clear_in, columns_clear};
 
 pub mod answer;
 pub mod error;
@@ -49,23 +50,18 @@ pub enum Layout {
 pub fn byte_at(bytes: &[u8], i: usize) -> u8
     ensures { result ≡ get_or bytes.now i 0 }
 {
-    if i < bytes.len() {
-        return bytes[i];
-    }
-    0
+    bytes.get(i).copied().unwrap_or(0)
 }
 
 // Where a cell's entry stands in a list of 81. No cell has the number 0; it stands where cell 1 does.
 pub fn index_of(cell: usize) -> usize
     ensures { result ≡ cell - 1 }
 {
-    if cell == 0 {
-        return 0;
-    }
-    cell - 1
+    cell.saturating_sub(1)
 }
 
 // The digit at a cell, 0 where it holds none or where the grid has no such cell.
+#[tactic(auto, unfolding(sudoku::specs::Grid::at))]
 pub fn digit_at(digits: &[u8; 81], cell: usize) -> u8
     ensures { result ≡ at digits.now cell }
 {
@@ -73,6 +69,7 @@ pub fn digit_at(digits: &[u8; 81], cell: usize) -> u8
 }
 
 // Whether a cell holds a digit.
+#[tactic(auto, unfolding(crate::specs::Puzzle::holds_digit))]
 pub fn holds_digit(digits: &[u8; 81], cell: usize) -> bool
     ensures { result ≡ holds_digit digits.now cell }
 {
@@ -83,66 +80,44 @@ pub fn holds_digit(digits: &[u8; 81], cell: usize) -> bool
 fn is_held(digits: &[u8; 81], digit: u8, cells: [u8; 20]) -> bool
     ensures { result ≡ is_held digits.now digit cells }
 {
-    let mut i: usize = 0;
-    while i < PEERS_PER_CELL {
-        if digit_at(digits, wide(cells[i])) == digit {
-            return true;
-        }
-        i += 1;
-    }
-    false
+    cells
+        .iter()
+        .any(|cell| digit_at(digits, usize::from(*cell)) == digit)
 }
 
 // Whether a cell holds a digit that a peer also holds.
+#[tactic(auto, unfolding(crate::specs::Puzzle::conflicts, sudoku::specs::Tests::both))]
 pub fn conflicts(digits: &[u8; 81], cell: usize) -> bool
     ensures { result ≡ conflicts_at digits.now cell }
 {
-    let digit = digit_at(digits, cell);
-    if digit == 0 {
-        return false;
-    }
-    is_held(digits, digit, peers(cell))
+    holds_digit(digits, cell) && is_held(digits, digit_at(digits, cell), peers(cell))
 }
 
 // Whether every cell holds a digit. The first empty cell answers, and until a game's last digits there is one soon.
 pub fn is_full(digits: &[u8; 81]) -> bool
     ensures { result ≡ is_full digits.now }
 {
-    let mut cell: usize = 1;
-    while cell <= CELLS {
-        if !holds_digit(digits, cell) {
-            return false;
-        }
-        cell += 1;
-    }
-    true
+    digits.iter().all(|digit| *digit != 0)
 }
 
 // Whether no cell conflicts: no column, row or box holds a digit twice.
 pub fn is_consistent(digits: &[u8; 81]) -> bool
     ensures { result ≡ is_consistent digits.now }
 {
-    if !columns_clear(digits) {
-        return false;
-    }
-    if !rows_clear(digits) {
-        return false;
-    }
-    boxes_clear(digits)
+    columns_clear(digits) && clear_in(digits, &ROWS) && clear_in(digits, &BOXES)
 }
 
 // The status after a digit was put into a cell, 1 for solved. Solved
 // is final; the full grid is the cheaper test and comes first.
+#[tactic(auto, unfolding(crate::specs::Puzzle::settled, sudoku::specs::Tests::both, sudoku::specs::Tests::pick))]
 pub fn settled(digits: &[u8; 81], solved: u8) -> u8
     ensures { result ≡ settled_by digits.now solved }
 {
-    if !is_full(digits) {
-        return solved;
+    if is_full(digits) && is_consistent(digits) {
+        1
+    } else {
+        solved
     }
-    if !is_consistent(digits) {
-        return solved;
-    }
-    1
 }
 
 // How many cells hold the digit.
@@ -150,23 +125,18 @@ fn cells_holding(digits: &[u8; 81], digit: u8) -> u8
     ensures { (result ≡ count (λ cell. eqb (at digits.now cell) digit) 81 1) × (result ≤ 81) }
 {
     let mut n: u8 = 0;
-    let mut cell: usize = 1;
-    while cell <= CELLS {
-        if digit_at(digits, cell) == digit {
-            n += 1;
+    for held in digits {
+        if *held == digit {
+            n += 1; // in a byte: `filter` and `count`, in a usize, take ten times as long
         }
-        cell += 1;
     }
     n
 }
 
 // Digits left for a key: nine less the cells that hold the digit, and none where more than nine do.
+#[tactic(auto, unfolding(crate::specs::Puzzle::digits_left))]
 pub fn digits_left(digits: &[u8; 81], digit: u8) -> u8
     ensures { result ≡ digits_left digits.now digit }
 {
-    let n = cells_holding(digits, digit);
-    if n > SIDE {
-        return 0;
-    }
-    SIDE - n
+    SIDE.saturating_sub(cells_holding(digits, digit))
 }

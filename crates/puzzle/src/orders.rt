@@ -1,7 +1,7 @@
 // Two orders of the 81 entries of a grid, in which nine rows of nine show other units as their columns.
 
 // Entry i is the index of what stands at i where each row of the grid is written as a column.
-pub const ROWS: [u8; 81] = [
+pub static ROWS: [u8; 81] = [
     0, 9, 18, 27, 36, 45, 54, 63, 72, 1, 10, 19, 28, 37, 46, 55, 64, 73, 2, 11, 20, 29, 38, 47, 56,
     65, 74, 3, 12, 21, 30, 39, 48, 57, 66, 75, 4, 13, 22, 31, 40, 49, 58, 67, 76, 5, 14, 23, 32,
     41, 50, 59, 68, 77, 6, 15, 24, 33, 42, 51, 60, 69, 78, 7, 16, 25, 34, 43, 52, 61, 70, 79, 8,
@@ -9,7 +9,7 @@ pub const ROWS: [u8; 81] = [
 ];
 
 // The same for the boxes.
-pub const BOXES: [u8; 81] = [
+pub static BOXES: [u8; 81] = [
     0, 27, 54, 3, 30, 57, 6, 33, 60, 9, 36, 63, 12, 39, 66, 15, 42, 69, 18, 45, 72, 21, 48, 75, 24,
     51, 78, 1, 28, 55, 4, 31, 58, 7, 34, 61, 10, 37, 64, 13, 40, 67, 16, 43, 70, 19, 46, 73, 22,
     49, 76, 25, 52, 79, 2, 29, 56, 5, 32, 59, 8, 35, 62, 11, 38, 65, 14, 41, 68, 17, 44, 71, 20,

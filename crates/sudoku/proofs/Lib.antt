@@ -5,3 +5,4 @@ pub mod Counting
 pub mod Each
 pub mod Listed
 pub mod Made
+pub mod Chains

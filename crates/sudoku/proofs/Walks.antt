@@ -8,7 +8,7 @@
 use Prim.Native.Nat.{ℕ, zero, suc, ◌+◌, ◌-◌, ◌≤◌, ◌<◌}
 use mathlib.Core.Path.{◌≡◌, refl, sym, ap, subst, ◌∙◌}
 use mathlib.Core.Logic.{⊎_elim}
-use mathlib.Core.Bool.{Bool, true, false, not, ◌&&◌}
+use mathlib.Core.Bool.{Bool, true, false, not, ◌&&◌, ◌||◌}
 use mathlib.Core.List.{List, [], ◌∷◌}
 use native.Mathlib.Nat.{eq-or-lt_of_le, sub-eq-zero_of_le, suc-add, add-suc, zero-add, add-zero, le_of_suc-le-suc, not-suc-le-zero}
 use native.Mathlib.Numerals.{add-one}
@@ -140,6 +140,12 @@ pub either_false_right : (a b : Bool) → either a b ≡ false → b ≡ false
 unfolding either
 either_false_right true b p = absurd (not_both_ways true refl p)
 either_false_right false b p = p
+
+-- as the code joins two tests of which one is enough
+pub or_either : (a b : Bool) → (a || b) ≡ either a b
+unfolding either
+or_either true b = refl
+or_either false b = refl
 
 -- where one of two tests holds: what follows from each
 pub either_cases : {A : Type 0} (a b : Bool) → either a b ≡ true → (a ≡ true → A) → (b ≡ true → A) → A

@@ -1,32 +1,23 @@
--- `puzzle::is_full` meets its contract: what is left to test from `cell` on decides.
+-- `puzzle::is_full` meets its contract: the entries are tested one by one.
 -- Assumes nothing.
-use mathlib.Core.Path.{refl, sym, ◌∙◌}
-use native.Mathlib.Omega.{arith}
+use Prim.Native.Nat.{ℕ}
+use mathlib.Core.Path.{ap, ◌∙◌}
+use mathlib.Core.Bool.{Bool, not}
+use borrow.Author.Rules.{rules}
+use borrow.Author.Tests.{tests}
+use lib.Dec.{eqb}
+use Rattle.std.proofs.lemmas.Iterator.{YieldsList-from_slice}
+use Rattle.std.proofs.lemmas.Iterator.Search.{all_from_yields_List}
 use Rattle.sudoku.specs.Tests.{every}
-use Rattle.sudoku.proofs.Walks.{every_more, every_fails, every_all}
+use Rattle.sudoku.proofs.Chains.{all_walk, at_place}
 use Rattle.puzzle.specs.Puzzle.{is_full, holds_digit}
 use Rattle.puzzle.proofs.is_full.Goals as goal
 
-pub loop-cell-init : goal.loop-cell-init
-unfolding is_full every
-loop-cell-init c = (omega arith, omega arith, refl)
-
-pub returns-then-not-holds_digit : goal.returns-then-not-holds_digit
-returns-then-not-holds_digit c =
-    let turn = c.loop-cell in
-    sym (turn.invariant.2 ∙ every_fails (holds_digit c.args.digits.now) 82 turn.cell (omega arith)
-    (sym c.holds_digit.ensures ∙ c.if-not-holds_digit.true))
-
-pub loop-cell-preserved : goal.loop-cell-preserved
-loop-cell-preserved c =
-    let turn = c.loop-cell in (
-      omega arith,
-      omega arith,
-      turn.invariant.2 ∙ every_more (holds_digit c.args.digits.now) 82 turn.cell
-          (omega arith) (sym c.holds_digit.ensures ∙ c.if-not-holds_digit.false),
-    )
-
 pub returns : goal.returns
+unfolding is_full holds_digit
 returns c =
-    let turn = c.loop-cell in
-    sym (turn.invariant.2 ∙ every_all (holds_digit c.args.digits.now) 82 turn.cell (omega arith))
+    let digits = c.args.digits.now in
+    let test : ℕ → Bool = λ digit. not (eqb digit 0) in
+    all_from_yields_List test _ _ _ c.all.ensures.ran (YieldsList-from_slice digits cc) (λ x b q k. search (rules, tests))
+    ∙ all_walk (holds_digit digits) test digits 1 (λ k l. ap test (at_place digits k))
+    ∙ ap (λ (n : ℕ). every (holds_digit digits) n 1) c.told-digits

@@ -1,32 +1,20 @@
--- `puzzle::is_held` meets its contract: what is left to test from `i` on decides.
+-- `puzzle::is_held` meets its contract: the cells are tested one by one.
 -- Assumes nothing.
-use mathlib.Core.Path.{refl, sym, ap, ◌∙◌}
-use native.Mathlib.Omega.{arith}
+use Prim.Native.Nat.{ℕ}
+use mathlib.Core.Path.{◌∙◌}
+use mathlib.Core.Bool.{Bool}
+use borrow.Author.Rules.{rules}
+use borrow.Author.Tests.{tests}
+use lib.Dec.{eqb}
+use Rattle.std.proofs.lemmas.Iterator.{YieldsList-from_slice}
+use Rattle.std.proofs.lemmas.Iterator.Search.{any_from_yields_List}
 use Rattle.sudoku.specs.Grid.{at}
-use Rattle.puzzle.proofs.Search.{held_here, held_later, held_nowhere}
+use Rattle.puzzle.proofs.Search.{held_any}
 use Rattle.puzzle.proofs.is_held.Goals as goal
-
-pub loop-i-init : goal.loop-i-init
-loop-i-init c = (omega arith, refl)
-
-pub returns-then-digit_at-digit : goal.returns-then-digit_at-digit
-returns-then-digit_at-digit c =
-    let a = c.args in
-    let turn = c.loop-i in
-    sym (turn.invariant.1 ∙ held_here a.digits.now a.digit a.cells turn.i (omega arith)
-    (ap (at a.digits.now) (sym c.wide.ensures.0) ∙ sym c.digit_at.ensures ∙ c.if-digit_at-digit.true))
-
-pub loop-i-preserved : goal.loop-i-preserved
-loop-i-preserved c =
-    let a = c.args in
-    let turn = c.loop-i in (
-      omega arith,
-      turn.invariant.1 ∙ held_later a.digits.now a.digit a.cells turn.i (omega arith)
-          (λ e. c.if-digit_at-digit.false (c.digit_at.ensures ∙ ap (at a.digits.now) c.wide.ensures.0 ∙ e)),
-    )
 
 pub returns : goal.returns
 returns c =
     let a = c.args in
-    let turn = c.loop-i in
-    sym (turn.invariant.1 ∙ held_nowhere a.digits.now a.digit a.cells turn.i (omega arith))
+    let test : ℕ → Bool = λ cell. eqb (at a.digits.now cell) a.digit in
+    any_from_yields_List test _ _ _ c.any.ensures.ran (YieldsList-from_slice a.cells cc) (λ x b q k. search (rules, tests))
+    ∙ held_any a.digits.now a.digit a.cells

@@ -1,6 +1,6 @@
 -- `puzzle::units::columns_clear` meets its contract: what is left to test from `k` on decides.
 -- Assumes nothing.
-use Prim.Native.Nat.{ℕ, ◌≤◌, ◌-◌, ◌*◌}
+use Prim.Native.Nat.{ℕ, ◌-◌, ◌*◌}
 use mathlib.Core.Path.{◌≡◌}
 use mathlib.Core.Bool.{Bool}
 use mathlib.Core.List.{List}
@@ -13,7 +13,4 @@ abbrev pub test : List ℕ → ℕ → Bool
 test grid k = step_clear grid (9 * k)
 
 abbrev pub invariant-loop-k : goal.invariant-loop-k
-invariant-loop-k l = (1 ≤ l.k) × (l.k ≤ 9) × (columns_clear l.digits ≡ every (test l.digits) (9 - l.k) l.k)
-
-abbrev pub decreases-loop-k : goal.decreases-loop-k
-decreases-loop-k l = 9 - l.k
+invariant-loop-k l = columns_clear l.digits ≡ every (test l.digits) (9 - l.k) l.k
