@@ -1,52 +1,59 @@
--- The laws of opening: memory set to zero byte by byte, and what
--- `open_of` gives where number 1 applies and where it does not.
+-- The laws of opening: the puzzle's tests, which answer alike whatever the memory holds, and then memory of zeros.
 -- Assumes nothing.
-use Prim.Native.Nat.{ℕ, ◌+◌, ◌/◌, ◌%◌, ◌≤◌, ◌<◌}
-use mathlib.Core.Path.{◌≡◌, refl, sym, ap, subst, ◌∙◌}
+use Prim.Native.Nat.{ℕ, ◌/◌, ◌%◌}
+use mathlib.Core.Path.{◌≡◌, refl, sym, ap, ◌∙◌}
 use mathlib.Core.Bool.{Bool, true, false}
-use mathlib.Core.List.{List, [], ◌∷◌, ◌++◌}
-use native.Mathlib.Numerals.{add-one}
-use native.Mathlib.Omega.{arith}
+use mathlib.Core.List.{List}
 use borrow.Author.Tests.{eq-eqb, ne_eqb, eqb-true}
 use lib.Dec.{eqb}
-use lib.ListN.{length, take, set, replicate, replicate-append-replicate}
-use lib.Seq.{take_all, take-suc-set}
+use lib.ListN.{length, replicate}
 use Rattle.sudoku.specs.Tests.{pick, both}
-use Rattle.sudoku.proofs.Walks.{by_test, pick_true, pick_false, both_true, both_left, both_right, both_false_left, both_false_right}
+use Rattle.sudoku.proofs.Walks.{pick_true, pick_false, both_left, both_right}
 use Rattle.puzzle.specs.declared.Refusal.{Refusal}
 use Rattle.puzzle.specs.declared.Given.{Given}
-use Rattle.puzzle.specs.Refusals.{accepted, refusal, is_accepted}
+use Rattle.puzzle.specs.Refusals.{accepted, is_accepted}
 use Rattle.puzzle.specs.declared.Layout.TheVariants.{Triples}
 use Rattle.puzzle.specs.Givens.{triples}
 use Rattle.puzzle.specs.Code.GivenBytes.{givens_in}
 use Rattle.puzzle.specs.Vouch.{well_posed}
 use Rattle.puzzle.proofs.GivenBytes.{triples_in}
 use Rattle.journal.specs.Limits.{journal_bytes, check_memory}
-use Rattle.board.specs.declared.Answer.{Answer}
+use Rattle.board.specs.declared.Board.{Board}
 use Rattle.board.specs.Board.{fresh, zero_board}
-use Rattle.board.specs.Open.{answer, Opened, Gives, no_moves, no_checks, wrong_length, turned_away, opened_fresh, posed, lent_lengths, open_of}
+use Rattle.board.specs.Open.{answer, Gives, no_moves, no_checks, turned_away, opened_fresh, posed, lent_lengths, open_of}
 
--- ---- memory set to zero
+-- what opening gives where number 1 does not apply
+either : (t : Bool) (r : Refusal) (b : Board)
+    → Gives (pick t (record { answer = answer accepted b; journal = no_moves; checks = no_checks }) (turned_away r)) (pick t (answer accepted b) (answer r zero_board)) no_moves no_checks
+unfolding pick turned_away
+either true r b = record { answer = refl; journal = refl; checks = refl }
+either false r b = record { answer = refl; journal = refl; checks = refl }
 
--- a turn of the loop
-pub clear_more : (l : List ℕ) (i : ℕ) → i < length l → take i l ≡ replicate i 0 → take (i + 1) (set l i 0) ≡ replicate (i + 1) 0
-clear_more l i h e =
-    ap (λ (k : ℕ). take k (set l i 0)) (add-one i)
-    ∙ take-suc-set l i 0 h
-    ∙ ap (λ (t : List ℕ). t ++ (0 ∷ [])) e
-    ∙ replicate-append-replicate i 1 0
+pub zeroed : (gs : List Given) (solution : List ℕ)
+    → Gives (pick (is_accepted (well_posed gs solution)) (opened_fresh gs solution) (turned_away (well_posed gs solution))) (posed gs solution) no_moves no_checks
+unfolding posed opened_fresh
+zeroed gs solution = either (is_accepted (well_posed gs solution)) (well_posed gs solution) (fresh gs solution)
 
--- its end
-pub clear_all : (l : List ℕ) (i n : ℕ) → length l ≡ n → n ≤ i → i ≤ n → take i l ≡ replicate i 0 → l ≡ replicate n 0
-clear_all l i n p u v e = sym (take_all i l (omega arith)) ∙ e ∙ ap (λ (k : ℕ). replicate k 0) {x = i} {y = n} (omega arith)
+module _ (givens solution journal checks : List ℕ) (l : lent_lengths solution journal checks ≡ true) where
+  rest : both (eqb (length checks) check_memory) (eqb (length solution) 81) ≡ true
+  unfolding lent_lengths
+  rest = both_right (eqb (length journal) journal_bytes) _ l
 
-pub zero_journal : (l : List ℕ) → length l ≡ journal_bytes → replicate (length l) 0 ≡ no_moves
-unfolding no_moves
-zero_journal l e = ap (λ (k : ℕ). replicate k 0) e
+  journal_length : length journal ≡ journal_bytes
+  unfolding lent_lengths
+  journal_length = eqb-true _ _ (both_left _ _ l)
 
-pub zero_checks : (l : List ℕ) → length l ≡ check_memory → replicate (length l) 0 ≡ no_checks
-unfolding no_checks
-zero_checks l e = ap (λ (k : ℕ). replicate k 0) e
+  pub solution_length : length solution ≡ 81
+  solution_length = eqb-true _ _ (both_right (eqb (length checks) check_memory) _ rest)
+
+  check_length : length checks ≡ check_memory
+  check_length = eqb-true _ _ (both_left _ _ rest)
+
+  pub right_lent : length givens % 3 ≡ 0
+      → Gives (open_of givens solution journal checks) (posed (triples givens) solution) (replicate (length journal) 0) (replicate (length checks) 0)
+  unfolding open_of no_moves no_checks pick both
+  right_lent h =
+      rw (journal_length, check_length, l, eq-eqb (length givens % 3) 0 h) (zeroed (triples givens) solution)
 
 -- ---- the puzzle's tests
 
@@ -75,65 +82,3 @@ module _ (givens solution : List ℕ) (r : Refusal) (e : r ≡ well_posed (given
   opened_fresh_lem h =
       ap (λ gs. answer accepted (fresh gs solution)) (sym (triples_in givens))
       ∙ sym (posed_fresh (triples givens) solution (eq-eqb _ 0 (ap (λ x. x.number) outcome ∙ h)))
-
--- ---- open_of
-
-module _ (givens solution journal checks : List ℕ) where
-  abbrev lengths : Bool
-  lengths = both (lent_lengths solution journal checks) (eqb (length givens % 3) 0)
-
-  -- what is shown of an equal record holds of open_of
-  gives : (o : Opened) (a : Answer) (j c : List ℕ) → open_of givens solution journal checks ≡ o → Gives o a j c
-      → Gives (open_of givens solution journal checks) a j c
-  gives o a j c e g = subst (λ o. Gives o a j c) (sym e) g
-
-  -- refused by 1: nothing is touched
-  unlent : (a : Answer) → lengths ≡ false → a ≡ answer (refusal 1 0 0) zero_board → Gives (open_of givens solution journal checks) a journal checks
-  unfolding open_of wrong_length
-  unlent a h p = gives (wrong_length journal checks) a journal checks (pick_false _ _ _ h) (record { answer = p; journal = refl; checks = refl })
-
-  pub wrong_lent : (a : Answer) → lent_lengths solution journal checks ≡ false → a ≡ answer (refusal 1 0 0) zero_board
-      → Gives (open_of givens solution journal checks) a journal checks
-  wrong_lent a h p = unlent a (both_false_left _ _ h) p
-
-  pub wrong_givens : (a : Answer) → (length givens % 3 ≡ 0 → ⊥) → a ≡ answer (refusal 1 0 0) zero_board
-      → Gives (open_of givens solution journal checks) a journal checks
-  wrong_givens a h p = unlent a (both_false_right _ _ (ne_eqb _ 0 h)) p
-
-  -- not refused by 1: the answer that the puzzle's tests give, and zeros
-  tested : (r : Refusal) → r ≡ well_posed (triples givens) solution → lengths ≡ true
-      → open_of givens solution journal checks ≡ pick (is_accepted r) (opened_fresh (triples givens) solution) (turned_away r)
-  unfolding open_of
-  tested r e h = pick_true _ _ _ h ∙ ap (λ (r : Refusal). pick (is_accepted r) (opened_fresh (triples givens) solution) (turned_away r)) (sym e)
-
-  zeroed : lengths ≡ true → Gives (open_of givens solution journal checks) (posed (triples givens) solution) no_moves no_checks
-  unfolding opened_fresh turned_away
-  zeroed h =
-      by_test (is_accepted (well_posed (triples givens) solution))
-      (λ t. gives (opened_fresh (triples givens) solution) _ _ _ (tested _ refl h ∙ pick_true _ _ _ t)
-      (record { answer = posed_fresh (triples givens) solution t; journal = refl; checks = refl }))
-      (λ t. gives (turned_away (well_posed (triples givens) solution)) _ _ _ (tested _ refl h ∙ pick_false _ _ _ t)
-      (record { answer = posed_refused (triples givens) solution t; journal = refl; checks = refl }))
-
-  module _ (l : lent_lengths solution journal checks ≡ true) where
-    journal_length : length journal ≡ journal_bytes
-    unfolding lent_lengths
-    journal_length = eqb-true _ _ (both_left _ _ l)
-
-    check_length : length checks ≡ check_memory
-    unfolding lent_lengths
-    check_length = eqb-true _ _ (both_left _ _ (both_right (eqb (length journal) journal_bytes) _ l))
-
-    pub solution_length : length solution ≡ 81
-    unfolding lent_lengths
-    solution_length = eqb-true _ _ (both_right (eqb (length checks) check_memory) _ (both_right (eqb (length journal) journal_bytes) _ l))
-
-    pub right_lent : (a : Answer) (j c : List ℕ) → length givens % 3 ≡ 0 → a ≡ posed (triples givens) solution
-        → j ≡ replicate (length journal) 0 → c ≡ replicate (length checks) 0 → Gives (open_of givens solution journal checks) a j c
-    right_lent a j c h p q r =
-        let g = zeroed (both_true _ _ l (eq-eqb _ 0 h)) in
-        record {
-          answer = p ∙ g.answer;
-          journal = q ∙ zero_journal journal journal_length ∙ g.journal;
-          checks = r ∙ zero_checks checks check_length ∙ g.checks;
-        }

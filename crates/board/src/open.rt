@@ -10,10 +10,11 @@ ghost use Rattle.journal.specs.Limits.{journal_bytes, check_memory};
 ghost use Rattle.board.specs.Board.{fresh as fresh_of, zero_board};
 ghost use Rattle.board.specs.Open.{answer, posed, open_of, Gives};
 
+use crate::error::PlayError;
 use crate::{Answer, Board};
 use journal::{CHECK_MEMORY, JOURNAL_BYTES};
 use puzzle::Layout;
-use puzzle::answer::{accepted, refusal};
+use puzzle::answer::accepted;
 use puzzle::given_bytes::{mark_givens, put_givens};
 use puzzle::vouch::{flat, rows_of, well_posed};
 use sudoku::CELLS;
@@ -75,7 +76,7 @@ pub fn wrong_length() -> Answer
     ensures { result ≡ answer (refusal_of 1 0 0) zero_board }
 {
     Answer {
-        refusal: refusal(1, 0, 0),
+        refusal: PlayError::WrongLength.into(),
         board: zero_board(),
     }
 }
@@ -101,13 +102,11 @@ fn opened(givens: &[u8], solution: &[u8]) -> Answer
 }
 
 // Opens a board of givens, three bytes each, and their solution.
+#[tactic(auto, using(crate::proofs::Opening::right_lent, crate::proofs::Opening::solution_length), unfolding(crate::specs::Open::open_of, crate::specs::Open::wrong_length, crate::specs::Open::lent_lengths, sudoku::specs::Tests::both, sudoku::specs::Tests::pick))]
 pub fn open(givens: &[u8], solution: &[u8], journal: &mut [u8], checks: &mut [u8]) -> Answer
     ensures { Gives (open_of givens.now solution.now journal.old checks.old) result journal.new checks.new }
 {
-    if !lent_lengths(solution.len(), journal.len(), checks.len()) {
-        return wrong_length();
-    }
-    if givens.len() % 3 != 0 {
+    if !lent_lengths(solution.len(), journal.len(), checks.len()) || givens.len() % 3 != 0 {
         return wrong_length();
     }
     clear(journal);
