@@ -13,6 +13,7 @@ use Rattle.sudoku.proofs.Grid.{at_put_other, is_cell_lem}
 use Rattle.note.specs.Note.{contains}
 use Rattle.journal.specs.State.{lowest, write_at, strike_at, every_masked}
 use Rattle.journal.specs.Code.InTurn.{in_turn, lacks, not_missing, lack_in_turn, none_missing_in_turn}
+use Rattle.journal.specs.Code.Marks.{MarkLaws, write_laws, strike_laws}
 use Rattle.journal.proofs.NoteCells.{Within, Apart, pick_either}
 use Rattle.journal.proofs.PeerCells.{peers_within, peers_distinct}
 
@@ -54,19 +55,15 @@ module _ (change : List ℕ → ℕ → List ℕ) (leaves : Leaves change) (test
 
 -- ---- the two walks over the peers of a cell
 
-write_leaves : (d : ℕ) → Leaves (λ l c. write_at l c d)
-unfolding write_at
-write_leaves d l c n p q h = at_put_other l c n _ p q h
-
-strike_leaves : (d : ℕ) → Leaves (λ l c. strike_at l c d)
-unfolding strike_at
-strike_leaves d l c n p q h = at_put_other l c n _ p q h
+change_leaves : {after : ℕ → ℕ → ℕ} {fits : ℕ → ℕ → Bool} {at_cell : List ℕ → ℕ → ℕ → List ℕ} {masked : List ℕ → ℕ → ℕ → List ℕ → List ℕ} {fits_each : List ℕ → ℕ → ℕ → List ℕ → Bool}
+    → MarkLaws after fits at_cell masked fits_each → (d : ℕ) → Leaves (λ l c. at_cell l c d)
+change_leaves laws d l c n p q h = rw (laws.cell l c d) (at_put_other l c n _ p q h)
 
 module _ (notes : List ℕ) (d mask cell : ℕ) (p : is_cell cell ≡ true) where
   pub lack_peers : lack_in_turn notes d mask (peers_of cell) ≡ every_masked (λ peer. not (contains (at notes peer) d)) mask (peers_of cell)
   unfolding lack_in_turn lacks
-  lack_peers = in_turn_peers (λ l c. write_at l c d) (write_leaves d) (lacks d) notes cell mask p
+  lack_peers = in_turn_peers (λ l c. write_at l c d) (change_leaves write_laws d) (lacks d) notes cell mask p
 
   pub have_peers : in_range d ≡ true → none_missing_in_turn notes d mask (peers_of cell) ≡ every_masked (λ peer. contains (at notes peer) d) mask (peers_of cell)
   unfolding none_missing_in_turn not_missing either
-  have_peers r = rw r at (in_turn_peers (λ l c. strike_at l c d) (strike_leaves d) (not_missing d) notes cell mask p)
+  have_peers r = rw r at (in_turn_peers (λ l c. strike_at l c d) (change_leaves strike_laws d) (not_missing d) notes cell mask p)

@@ -13,6 +13,7 @@ pub mod steps;
 
 // The kind bytes: of a given, the four moves, the count of undone moves, and
 // a check. Moves have theirs in slots and in records, the others in records.
+// They are bytes of the format, which MoveKind and the items of a record are written by.
 pub const GIVEN: u8 = 1;
 
 pub const PLACE: u8 = 2;

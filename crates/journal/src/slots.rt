@@ -13,7 +13,8 @@ use sudoku::{SIDE, cell_of, in_range, on_grid};
 // A mask has a bit for each of the twenty peers, so it is below this.
 const MASK_END: u32 = 1 << 20;
 
-// Slot n, read. What lies past the end of the journal reads as 0.
+// Slot n, read. What lies past the end of the journal reads as 0,
+// also where it ends within a slot, so each byte is asked for.
 #[tactic(auto, unfolding(crate::specs::Slots::slot_at, crate::specs::Slots::slot_start, crate::specs::Bytes::three))]
 pub fn slot_at(journal: &[u8], n: usize) -> Slot
     ensures { result ≡ slot_at journal.now n }
