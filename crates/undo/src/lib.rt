@@ -3,132 +3,113 @@
 // digit and marks when it changes them; a refused one puts the board back.
 #![tactic(auto)]
 
-pub mod asking;
 pub mod digits;
+pub mod direction;
 pub mod marks;
 
-ghost use Rattle.std.specs.Prelude.{ℕ, ◌≡◌, List};
+ghost use Rattle.std.specs.Prelude.{ℕ, ◌≡◌, List, length, IfOk};
+ghost use Rattle.sudoku.specs.Tests.{first};
+ghost use Rattle.puzzle.specs.Refusals.{told};
 ghost use Rattle.journal.specs.State.{perform_again};
 ghost use Rattle.journal.specs.Slots.{move_of};
-ghost use Rattle.board.specs.Board.{whole, state_of};
+ghost use Rattle.board.specs.Board.{whole, state_of, counts_of};
+ghost use Rattle.board.specs.Errors.{number_told};
+ghost use Rattle.board.specs.Open.{answer};
 ghost use Rattle.play.specs.Code.Parts.{parts};
-ghost use Rattle.play.specs.Play.{can_take_back, undo_of, redo_of};
-ghost use Rattle.undo.specs.Code.Halves.{back_if};
+ghost use Rattle.play.specs.Play.{undo_of, redo_of};
+ghost use Rattle.undo.specs.Code.Ways.{before_slot, call_of};
 
-use asking::{redo_number, slot_to_redo, undo_number};
+use board::error::PlayError;
+use board::value::lent;
 use board::{Answer, Board};
-use digits::{Changed, put_again, put_back};
+use direction::{Again, Back, Direction};
 use journal::slots::{is_sound, slot_at};
-use journal::steps::{after_retake, after_take_back};
-use journal::{Counts, Slot};
-use marks::{give_back, take_again};
-use puzzle::answer::{accepted, refusal};
+use journal::{Counts, JOURNAL_BYTES, Slot};
+use play::sound::Unsound;
+use puzzle::Refusal;
+use puzzle::answer::accepted;
+
+// The number of the slot that a call asks. Refused by 1 2 4, and by 12 or 13.
+#[tactic(auto, unfolding(sudoku::specs::Tests::first, sudoku::specs::Tests::pick, board::specs::Board::lent_tests, board::specs::Board::counts_of, crate::specs::Code::Ways::before_slot))]
+fn slot_asked<D: Direction>(board: Board, journal: &[u8]) -> Result<usize, PlayError>
+    ensures number { number_told result ≡ first (before_slot D.way board (length journal.now)) }
+    ensures slot { IfOk result (λ n. n ≡ D.way.slot (counts_of board)) }
+{
+    lent(board, journal.len() == JOURNAL_BYTES)?;
+    if board.solved != 0 {
+        return Err(PlayError::Solved);
+    }
+    D::slot(Counts {
+        made: board.made,
+        standing: board.standing,
+    })
+}
+
+// A recorded move gone over on a board in place, of which `before` is a copy; a refused one leaves it.
+fn go<D: Direction>(board: &mut Board, before: Board, journal: &[u8]) -> Result<(), Refusal>
+    requires { board.old ≡ before }
+    ensures { answer (told (λ r. r) result) board.new ≡ call_of D.way before journal.now }
+{
+    let n = slot_asked::<D>(before, journal)?;
+    let slot = slot_at(journal, n);
+    if !is_sound(&board.given, slot) {
+        return Err(Refusal::from(Unsound::Slot { index: n })); // before anything is changed
+    }
+    let digit = digits::put::<D>(&mut board.digits, before.solved, slot);
+    let marks_stood = marks::change::<D>(&mut board.notes, slot);
+    if !(digit.stood & marks_stood) {
+        *board = before; // without the marks changed
+        return Err(Refusal::from(Unsound::Slot { index: n }));
+    }
+    let counts = D::counted(Counts {
+        made: before.made,
+        standing: before.standing,
+    });
+    board.solved = digit.solved;
+    board.made = counts.made;
+    board.standing = counts.standing;
+    Ok(())
+}
 
 // Takes back the latest standing move. Refused by 1 2 4 12 14.
+#[tactic(auto, unfolding(crate::specs::Code::Ways::call_of, crate::specs::Code::Ways::before_slot, crate::specs::Code::Ways::fits, board::specs::Board::counts_of, play::specs::Play::undo_of, play::specs::Play::undo_tests, play::specs::Play::undo_before, play::specs::Play::can_take_back, play::specs::Play::undone))]
 pub fn undo(board: Board, journal: &[u8]) -> Answer
     ensures { result ≡ undo_of board journal.now }
 {
     let mut answer = Answer {
         refusal: accepted(),
-        board: board,
+        board,
     };
-    let n = undo_number(board, journal.len());
-    if n != 0 {
-        answer.refusal = refusal(n, 0, 0);
-        return answer;
+    if let Err(refusal) = go::<Back>(&mut answer.board, board, journal) {
+        answer.refusal = refusal;
     }
-    let slot = slot_at(journal, board.standing);
-    if !is_sound(&answer.board.given, slot) {
-        answer.refusal = refusal(14, board.standing, 0); // before anything is changed
-        return answer;
-    }
-    let digit = put_back(&mut answer.board.digits, board.solved, slot);
-    let marks_stood = give_back(&mut answer.board.notes, slot);
-    if !(digit.stood & marks_stood) {
-        answer.board = board; // without the marks given back
-        answer.refusal = refusal(14, board.standing, 0);
-        return answer;
-    }
-    let counts = after_take_back(Counts {
-        made: board.made,
-        standing: board.standing,
-    });
-    answer.board.solved = digit.solved;
-    answer.board.made = counts.made;
-    answer.board.standing = counts.standing;
     answer
 }
 
 // Performs the next undone move again. Refused by 1 2 4 13 14.
+#[tactic(auto, unfolding(crate::specs::Code::Ways::call_of, crate::specs::Code::Ways::before_slot, crate::specs::Code::Ways::fits, board::specs::Board::counts_of, play::specs::Play::redo_of, play::specs::Play::redo_tests, play::specs::Play::redo_before, play::specs::Play::can_retake, play::specs::Play::redone))]
 pub fn redo(board: Board, journal: &[u8]) -> Answer
     ensures { result ≡ redo_of board journal.now }
 {
     let mut answer = Answer {
         refusal: accepted(),
-        board: board,
+        board,
     };
-    let n = redo_number(board, journal.len());
-    if n != 0 {
-        answer.refusal = refusal(n, 0, 0);
-        return answer;
+    if let Err(refusal) = go::<Again>(&mut answer.board, board, journal) {
+        answer.refusal = refusal;
     }
-    let next = slot_to_redo(board.made, board.standing);
-    let slot = slot_at(journal, next);
-    if !is_sound(&answer.board.given, slot) {
-        answer.refusal = refusal(14, next, 0); // before anything is changed
-        return answer;
-    }
-    let digit = put_again(&mut answer.board.digits, board.solved, slot);
-    let marks_stood = take_again(&mut answer.board.notes, slot);
-    if !(digit.stood & marks_stood) {
-        answer.board = board; // without the marks taken again
-        answer.refusal = refusal(14, next, 0);
-        return answer;
-    }
-    let counts = after_retake(Counts {
-        made: board.made,
-        standing: board.standing,
-    });
-    answer.board.solved = digit.solved;
-    answer.board.made = counts.made;
-    answer.board.standing = counts.standing;
     answer
 }
 
-// A recorded move taken back on the digits and notes of a board, which are lent, where its slot is sound and
-// what it changed stands as the move left it. Answered is whether that is so, and the status; else all stays.
-fn back_in(
-    digits: &mut [u8; 81],
-    given: &[u8; 81],
-    notes: &mut [u16; 81],
-    board: Board,
-    slot: Slot,
-) -> Changed
-    requires { (digits.old ≡ board.digits) × (given.now ≡ board.given) × (notes.old ≡ board.notes) }
-    ensures { (result.stood ≡ can_take_back (state_of board) slot) × (parts board.given digits.new notes.new result.solved ≡ back_if result.stood (state_of board) slot) }
+// Undo on a board in place; a refused one leaves it. Reopening takes back so, one move after the other.
+pub fn take_back(board: &mut Board, journal: &[u8])
+    ensures { board.new ≡ (undo_of board.old journal.now).board }
 {
-    let unchanged = Changed {
-        stood: false,
-        solved: board.solved,
-    };
-    if !is_sound(given, slot) {
-        return unchanged;
-    }
-    let digit = put_back(digits, board.solved, slot);
-    let marks_stood = give_back(notes, slot);
-    if !(digit.stood & marks_stood) {
-        let digits_before = board.digits;
-        let notes_before = board.notes;
-        *digits = digits_before;
-        *notes = notes_before;
-        return unchanged;
-    }
-    digit
+    let before = *board;
+    let _ = go::<Back>(board, before, journal);
 }
 
-// Undo on a board whose parts are lent, in place; a refused one leaves them. Reopening takes back so, one
-// move after the other: by value each step would copy the board four times, and `undo` with a second
-// caller takes 13 ns longer, since the compiler then copies its answer once more (docs/DECISIONS.md, 29).
+// The same on the board's parts; until its caller has moved.
 pub fn undo_in<'a>(
     digits: &mut [u8; 81],
     given: &'a [u8; 81],
@@ -142,30 +123,21 @@ pub fn undo_in<'a>(
 )
     ensures { whole digits.new given.now notes.new solution.now solved.new made standing.new checks ≡ (undo_of (whole digits.old given.now notes.old solution.now solved.old made standing.old checks) journal.now.now).board }
 {
-    let board = Board {
+    let mut board = Board {
         digits: *digits,
         given: *given,
         notes: *notes,
         solution: *solution,
         solved: *solved,
-        made: made,
+        made,
         standing: *standing,
-        checks: checks,
+        checks,
     };
-    if undo_number(board, journal.len()) != 0 {
-        return;
-    }
-    let slot = slot_at(*journal, board.standing);
-    let changed = back_in(digits, given, notes, board, slot);
-    if !changed.stood {
-        return;
-    }
-    let counts = after_take_back(Counts {
-        made: made,
-        standing: board.standing,
-    });
-    *solved = changed.solved;
-    *standing = counts.standing;
+    take_back(&mut board, *journal);
+    *digits = board.digits;
+    *notes = board.notes;
+    *solved = board.solved;
+    *standing = board.standing;
 }
 
 // A recorded move performed again on parts that are lent, in place and however
@@ -173,7 +145,7 @@ pub fn undo_in<'a>(
 pub fn again_in(digits: &mut [u8; 81], notes: &mut [u16; 81], solved: u8, slot: Slot) -> u8
     ensures { (given : List ℕ) → parts given digits.new notes.new result ≡ perform_again (parts given digits.old notes.old solved) (move_of slot) slot.struck }
 {
-    let digit = put_again(digits, solved, slot);
-    take_again(notes, slot);
+    let digit = digits::put::<Again>(digits, solved, slot);
+    marks::change::<Again>(notes, slot);
     digit.solved
 }

@@ -2,12 +2,12 @@
 -- Assumes nothing.
 use mathlib.Core.Path.{◌∙◌}
 use Rattle.play.specs.Code.Parts.{parts}
-use Rattle.undo.proofs.Parts.{again_parts}
+use Rattle.undo.specs.Code.Kept.{again_laws}
 use Rattle.undo.proofs.again_in.Goals as goal
 
 pub returns : goal.returns
 returns c given =
     let a = c.args in
-    let digit = c.put_again-digit.ensures.1 given a.notes.now in
-    let notes = c.take_again.ensures.1 given a.digits.now a.solved in
-    (λ i. parts given (digit.1 i) (notes i) (digit.0 i)) ∙ again_parts (parts given a.digits.now a.notes.now a.solved) a.slot
+    let digit = c.put-digit.ensures.1 given a.notes.now in
+    let notes = c.change.ensures.1 given a.digits.now a.solved in
+    (λ i. parts given (digit.1 i) (notes i) (digit.0 i)) ∙ again_laws.whole (parts given a.digits.now a.notes.now a.solved) a.slot

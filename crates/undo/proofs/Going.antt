@@ -1,0 +1,85 @@
+-- A call that goes over a recorded move, in two steps, as the code goes: the tests that need no slot, and then the slot.
+-- Assumes nothing.
+use Prim.Native.Nat.{ℕ, ◌<◌}
+use mathlib.Core.Path.{◌≡◌, sym, ap, ◌∙◌}
+use mathlib.Core.Bool.{Bool, true, false, not, ◌&&◌}
+use mathlib.Core.List.{List, [], ◌∷◌, ◌++◌}
+use native.Mathlib.Omega.{arith}
+use borrow.Author.Tests.{eq-eqb, ne_eqb}
+use lib.ListN.{length}
+use Rattle.sudoku.specs.Tests.{Test, ◌⇒◌, first, pick}
+use Rattle.sudoku.specs.Grid.{cell_of}
+use Rattle.sudoku.proofs.Walks.{pick_true, pick_false, refused, both_first, both_false_left, and_both}
+use Rattle.puzzle.specs.Refusals.{refusal, accepted}
+use Rattle.journal.specs.declared.Slot.{Slot}
+use Rattle.journal.specs.State.{State}
+use Rattle.journal.specs.Slots.{move_of, digit_change, slot_at, is_sound}
+use Rattle.board.specs.declared.Board.{Board}
+use Rattle.board.specs.declared.error.PlayError.{PlayError}
+use Rattle.board.specs.Board.{state_of, counts_of, moved, lent_tests}
+use Rattle.board.specs.Errors.{play_number, play_refusal}
+use Rattle.board.specs.Open.{answer}
+use Rattle.board.proofs.Numbers.{last_if}
+use Rattle.board.proofs.Told.{Numbered, has_number, told_err, told_ok}
+use Rattle.play.proofs.Accepted.{slot_plain, slot_14}
+use Rattle.undo.specs.Code.Ways.{Way, Laws, digit_stood, marks_stood, before_slot, fits, call_of}
+
+-- a number below 14 has no place
+abbrev Below : List Test → Type 0
+Below [] = Unit
+Below (t ∷ ts) = (t.number < 14) × Below ts
+
+pick_below : (t : Bool) (n x : ℕ) → n < 14 → x < 14 → pick t n x < 14
+unfolding pick
+pick_below true n x p q = p
+pick_below false n x p q = q
+
+first_below : (ts : List Test) → Below ts → first ts < 14
+unfolding first
+first_below [] q = omega arith
+first_below (t ∷ ts) q = pick_below t.holds t.number (first ts) q.0 (first_below ts q.1)
+
+module _ (w : Way) (laws : Laws w) where
+  -- what is asked of the parts of a state, where the slot is sound
+  module _ (s : State) (slot : Slot) where
+    pub unsound_unfit : is_sound s.given slot ≡ false → fits w s slot ≡ false
+    unfolding fits
+    unsound_unfit h = both_false_left _ _ h
+
+    pub fits_parts : is_sound s.given slot ≡ true → (digit_stood w s.digits (cell_of slot.row slot.column) (digit_change slot) && marks_stood w s.notes (move_of slot) slot.struck) ≡ fits w s slot
+    unfolding fits
+    fits_parts h = and_both _ _ ∙ laws.stood s slot h ∙ sym (both_first _ _ h)
+
+  module _ (b : Board) (journal : List ℕ) where
+    numbered : Numbered (before_slot w b (length journal))
+    unfolding before_slot lent_tests
+    numbered = (omega arith, (omega arith, (omega arith, (laws.numbered (counts_of b), tt))))
+
+    below : first (before_slot w b (length journal)) < 14
+    unfolding before_slot lent_tests
+    below = first_below _ (omega arith, (omega arith, (omega arith, (laws.below_14 (counts_of b), tt))))
+
+    -- refused before its slot is asked
+    pub stopped : (e : PlayError) → play_number e ≡ first (before_slot w b (length journal)) → answer (play_refusal e) b ≡ call_of w b journal
+    unfolding call_of
+    stopped e p =
+        let q = told_err e (before_slot w b (length journal)) ((not (fits w (state_of b) (slot_at journal (w.slot (counts_of b)))) ⇒ 14) ∷ []) p in
+        ap (λ r. answer r b) (slot_plain (play_number e) _ (w.slot (counts_of b)) (omega (arith, p, below)) q)
+        ∙ sym (pick_false _ _ _ (ne_eqb _ 0 (λ z. omega (arith, has_number e, q, z))))
+
+    module _ (p : 0 ≡ first (before_slot w b (length journal))) where
+      by_the_slot : first (before_slot w b (length journal) ++ ((not (fits w (state_of b) (slot_at journal (w.slot (counts_of b)))) ⇒ 14) ∷ [])) ≡ first ((not (fits w (state_of b) (slot_at journal (w.slot (counts_of b)))) ⇒ 14) ∷ [])
+      by_the_slot = told_ok _ _ numbered p
+
+      -- refused by its slot
+      pub unfit : fits w (state_of b) (slot_at journal (w.slot (counts_of b))) ≡ false → answer (refusal 14 (w.slot (counts_of b)) 0) b ≡ call_of w b journal
+      unfolding call_of
+      unfit h =
+          let q : 14 ≡ _ = sym (by_the_slot ∙ refused _ 14 [] (ap not h)) in
+          ap (λ r. answer r b) (slot_14 _ (w.slot (counts_of b)) q) ∙ sym (pick_false _ _ _ (ne_eqb _ 0 (λ z. omega (arith, q, z))))
+
+      -- accepted
+      pub gone : fits w (state_of b) (slot_at journal (w.slot (counts_of b))) ≡ true
+          → answer accepted (moved b (w.whole (state_of b) (slot_at journal (w.slot (counts_of b)))) (w.counts (counts_of b))) ≡ call_of w b journal
+      unfolding call_of
+      gone h = sym (pick_true _ _ _ (eq-eqb _ 0 (by_the_slot ∙ last_if _ 14 (ap not h))))

@@ -1,0 +1,119 @@
+// The two directions in which recorded moves are gone over: back, as undo goes, and again, as redo goes.
+ghost use Rattle.std.specs.Prelude.{◌≡◌, [], ◌∷◌, IfOk};
+ghost use Rattle.sudoku.specs.Tests.{first};
+ghost use Rattle.sudoku.specs.Grid.{at};
+ghost use Rattle.board.specs.Errors.{number_told};
+ghost use Rattle.undo.specs.Code.Ways.{Way, back, again, Laws};
+ghost use Rattle.undo.specs.Code.Kept.{back_laws, again_laws};
+
+use crate::marks::{strike_standing, write_lacking};
+use board::error::PlayError;
+use journal::notes::{strike_masked_in, write_masked_in};
+use journal::{Counts, DigitChange};
+
+// Each change of marks answers whether they stood as they must before it.
+pub trait Direction {
+    ghost way: { Way };
+
+    // The number of the slot of the move to go over.
+    fn slot(counts: Counts) -> Result<usize, PlayError>
+        ensures number { number_told result ≡ first (way.none counts ∷ []) }
+        ensures slot { IfOk result (λ n. n ≡ way.slot counts) };
+
+    // The change of a digit, as it is made now.
+    fn turned(change: DigitChange) -> DigitChange
+        ensures { result ≡ way.turned change };
+
+    // The mark of a move that wrote it.
+    fn written(notes: &mut [u16; 81], cell: usize, digit: u8) -> bool
+        ensures { (result ≡ way.written_stood (at notes.old cell) digit) × (notes.new ≡ way.written notes.old cell digit) };
+
+    // The mark of a move that struck it.
+    fn struck(notes: &mut [u16; 81], cell: usize, digit: u8) -> bool
+        ensures { (result ≡ way.struck_stood (at notes.old cell) digit) × (notes.new ≡ way.struck notes.old cell digit) };
+
+    // The marks of those of the cells that are in the mask.
+    fn displaced(notes: &mut [u16; 81], digit: u8, mask: u32, cells: &[u8; 20]) -> bool
+        ensures { (result ≡ way.displaced_stood notes.old digit mask cells.now) × (notes.new ≡ way.displaced notes.old digit mask cells.now) };
+
+    // The counts afterwards.
+    fn counted(counts: Counts) -> Counts
+        ensures { result ≡ way.counts counts };
+
+    ghost laws: { Laws way };
+}
+
+pub struct Back;
+
+#[tactic(auto, unfolding(sudoku::specs::Tests::first, sudoku::specs::Tests::pick))]
+impl Direction for Back {
+    ghost way = { back };
+
+    ghost laws = { back_laws };
+
+    fn slot(counts: Counts) -> Result<usize, PlayError> {
+        if counts.standing == 0 {
+            return Err(PlayError::NothingToUndo);
+        }
+        Ok(counts.standing)
+    }
+
+    fn turned(change: DigitChange) -> DigitChange {
+        DigitChange {
+            before: change.after,
+            after: change.before,
+        }
+    }
+
+    fn written(notes: &mut [u16; 81], cell: usize, digit: u8) -> bool {
+        strike_standing(notes, cell, digit)
+    }
+
+    fn struck(notes: &mut [u16; 81], cell: usize, digit: u8) -> bool {
+        write_lacking(notes, cell, digit)
+    }
+
+    fn displaced(notes: &mut [u16; 81], digit: u8, mask: u32, cells: &[u8; 20]) -> bool {
+        write_masked_in(notes, digit, mask, cells)
+    }
+
+    fn counted(counts: Counts) -> Counts {
+        counts.taken_back()
+    }
+}
+
+pub struct Again;
+
+#[tactic(auto, unfolding(sudoku::specs::Tests::first, sudoku::specs::Tests::pick))]
+impl Direction for Again {
+    ghost way = { again };
+
+    ghost laws = { again_laws };
+
+    fn slot(counts: Counts) -> Result<usize, PlayError> {
+        if counts.made <= counts.standing {
+            return Err(PlayError::NothingToRedo);
+        }
+        Ok(counts.standing + 1)
+    }
+
+    fn turned(change: DigitChange) -> DigitChange {
+        change
+    }
+
+    fn written(notes: &mut [u16; 81], cell: usize, digit: u8) -> bool {
+        write_lacking(notes, cell, digit)
+    }
+
+    fn struck(notes: &mut [u16; 81], cell: usize, digit: u8) -> bool {
+        strike_standing(notes, cell, digit)
+    }
+
+    fn displaced(notes: &mut [u16; 81], digit: u8, mask: u32, cells: &[u8; 20]) -> bool {
+        strike_masked_in(notes, digit, mask, cells)
+    }
+
+    fn counted(counts: Counts) -> Counts {
+        counts.retaken()
+    }
+}
