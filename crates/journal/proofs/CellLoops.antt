@@ -97,22 +97,6 @@ module _ {after : ℕ → ℕ → ℕ} {fits : ℕ → ℕ → Bool} {at_cell : 
   pub fits_end : length cells ≤ i → (notes : List ℕ) (d mask : ℕ) (ok : Bool) → both ok (fits_each notes d mask (drop i cells)) ≡ ok
   fits_end h notes d mask ok = rw (laws.each notes d mask (drop i cells)) (in_turn_end cells i h (λ l cell. at_cell l cell d) (fits d) notes mask ok)
 
--- a mask of 0 changes nothing and asks nothing
-in_turn_none : (change : List ℕ → ℕ → List ℕ) (test : ℕ → Bool) (notes cells : List ℕ) → in_turn change test notes 0 cells ≡ true
-unfolding in_turn lowest both either pick
-in_turn_none change test notes [] = refl
-in_turn_none change test notes (cell ∷ cells) = in_turn_none change test notes cells
-
-module _ {after : ℕ → ℕ → ℕ} {fits : ℕ → ℕ → Bool} {at_cell : List ℕ → ℕ → ℕ → List ℕ} {masked : List ℕ → ℕ → ℕ → List ℕ → List ℕ} {fits_each : List ℕ → ℕ → ℕ → List ℕ → Bool}
-    (laws : MarkLaws after fits at_cell masked fits_each) where
-  pub masked_none : (notes : List ℕ) (d : ℕ) (cells : List ℕ) → masked notes d 0 cells ≡ notes
-  unfolding lowest pick
-  masked_none notes d [] = laws.none notes d 0
-  masked_none notes d (cell ∷ cells) = laws.more notes d 0 cell cells ∙ masked_none notes d cells
-
-  pub fits_none : (notes : List ℕ) (d : ℕ) (cells : List ℕ) → fits_each notes d 0 cells ≡ true
-  fits_none notes d cells = laws.each notes d 0 cells ∙ in_turn_none (λ l cell. at_cell l cell d) (fits d) notes cells
-
 -- ---- a note changed, and tested, by the lowest bit of a mask and without a test of that bit
 
 pub low_bit : (mask : ℕ) → mask % 2 ≡ bit (lowest mask)

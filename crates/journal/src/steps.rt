@@ -73,17 +73,23 @@ impl Counts {
 pub fn after_record(c: Counts) -> Counts
     ensures { result ≡ recorded_of c }
 {
-    c.recorded()
+    let mut counts = c;
+    counts.record();
+    counts
 }
 
 pub fn after_take_back(c: Counts) -> Counts
     ensures { result ≡ taken_back_of c }
 {
-    c.taken_back()
+    let mut counts = c;
+    counts.take_back();
+    counts
 }
 
 pub fn after_retake(c: Counts) -> Counts
     ensures { result ≡ retaken_of c }
 {
-    c.retaken()
+    let mut counts = c;
+    counts.retake();
+    counts
 }
