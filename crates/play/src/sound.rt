@@ -6,7 +6,7 @@ ghost use Rattle.play.specs.Unsound.{unsound_refusal};
 
 use journal::slots::{is_sound, slot_at};
 use puzzle::Refusal;
-use puzzle::answer::{accepted, refusal};
+use puzzle::answer::refusal;
 
 // What is lent and is not sound: 14 of a slot, whose number is the place, or of a stored check, inner 1.
 #[derive(Clone, Copy, Debug, PartialEq, Eq)]
@@ -36,14 +36,4 @@ pub fn sound_slots(given: &[u8; 81], journal: &[u8], made: usize) -> Result<(), 
         }
     }
     Ok(())
-}
-
-// The same as a refusal, until its callers have moved.
-pub fn first_unsound(given: &[u8; 81], journal: &[u8], made: usize) -> Refusal
-    ensures { result ≡ first_refused (unsound_slot given.now journal.now) made 1 }
-{
-    match sound_slots(given, journal, made) {
-        Ok(()) => accepted(),
-        Err(e) => e.into(),
-    }
 }
