@@ -9,10 +9,10 @@ use native.Mathlib.Omega.{arith}
 use borrow.Author.Tests.{eqb-true, eqb-false, eq-eqb, ne_eqb, lt-ltb, le-ltb, ltb-false}
 use lib.Dec.{ltb, eqb}
 use lib.ListN.{length, get_or, replicate}
-use Rattle.sudoku.specs.Tests.{pick}
+use Rattle.sudoku.specs.Tests.{pick, listed}
 use Rattle.sudoku.specs.Grid.{in_range, at}
-use Rattle.sudoku.proofs.Walks.{by_test, not_is_true, not_is_false}
-use Rattle.sudoku.proofs.Listed.{listed_at}
+use Rattle.sudoku.proofs.Walks.{by_test, not_is_true, not_is_false, either_cases, both_left}
+use Rattle.sudoku.proofs.Listed.{listed_at, listed_shift}
 use Rattle.sudoku.proofs.Grid.{in_range_lem, range_zero}
 use Rattle.puzzle.specs.declared.Refusal.{Refusal}
 use Rattle.puzzle.specs.declared.Given.{Given}
@@ -26,7 +26,7 @@ use Rattle.puzzle.proofs.GivensBy.{by_same, by_room, bytes_left, bytes_turn, byt
 use Rattle.journal.specs.Bytes.{over}
 use Rattle.record.specs.Write.{wrote}
 use Rattle.record.proofs.Writing.{wrote_nothing, wrote_bytes}
-use Rattle.lines.specs.Lines.{givens_room, is_line, value_at, other_sort, line_refusal, values_of, line_cells, line_givens, digits_bytes, read_refusal, read_line_of}
+use Rattle.lines.specs.Lines.{line_bytes, givens_room, is_line, value_at, other_sort, line_refusal, values_of, line_cells, line_givens, digits_bytes, read_refusal, read_line_of}
 use Rattle.lines.specs.Code.Triples.{given_bytes}
 
 -- ---- 36 and 37
@@ -46,6 +46,21 @@ module _ (line : List ℕ) (n v : ℕ) (e : v ≡ cell_value (get_or line (n - 1
   other_none h = if_not _ (refusal 37 n 0) (ap (ltb 9) value_here ∙ le-ltb 9 v h)
 
 module _ (line : List ℕ) where
+  -- what stands at i
+  abbrev pub entry : ℕ → ℕ
+  entry i = cell_value (get_or line i 0)
+
+  pub entries : listed entry 81 0 ≡ values_of line
+  unfolding values_of value_at at
+  entries = listed_shift entry (value_at line) 81 0 1 (λ k. ap entry {x = 0 + k} {y = 1 + k - 1} (omega arith))
+
+  pub long_line : is_line line ≡ true → line_bytes ≤ length line
+  unfolding is_line
+  long_line t =
+      either_cases _ _ t
+      (λ e. omega (arith, eqb-true (length line) line_bytes e))
+      (λ e. omega (arith, eqb-true (length line) (line_bytes + 1) (both_left _ _ e)))
+
   pub no_line : is_line line ≡ false → line_refusal line ≡ refusal 36 0 0
   unfolding line_refusal
   no_line t = or_else_by _ _ (refusal 36 0 0) (refused_if_lem _ (refusal 36 0 0) (not_is_true _ t)) (eqb-false 36 0 refl)

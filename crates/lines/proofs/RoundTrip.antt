@@ -12,7 +12,7 @@ use lib.Dec.{leb, ltb, eqb}
 use lib.ListN.{length, get_or, take}
 use Rattle.sudoku.specs.Tests.{pick, both, listed}
 use Rattle.sudoku.specs.Grid.{in_range, at}
-use Rattle.sudoku.proofs.Walks.{by_test, not_both_ways, pick_true, pick_false, both_true, both_left, both_right, either_left, either_cases, every_at}
+use Rattle.sudoku.proofs.Walks.{by_test, not_both_ways, pick_true, pick_false, both_true, both_left, both_right, either_left, every_at}
 use Rattle.sudoku.proofs.Listed.{length_listed, listed_at, listed_agree, listed_shift}
 use Rattle.sudoku.proofs.Grid.{in_range_lem, range_to, range_zero}
 use Rattle.puzzle.specs.declared.Given.{Given}
@@ -26,7 +26,7 @@ use Rattle.board.specs.declared.Board.{Board}
 use Rattle.board.specs.Board.{is_board, may_stand, digit_value}
 use Rattle.record.specs.Write.{givens_of}
 use Rattle.lines.specs.Lines.{line_bytes, is_line, value_at, other_sort, line_refusal, line_givens, character_at, line_of, dotted, dotted_line}
-use Rattle.lines.proofs.Reading.{a_line, value_small}
+use Rattle.lines.proofs.Reading.{long_line, a_line, value_small}
 use Rattle.board.proofs.Values.{board_digits}
 
 -- ---- the givens of a line ascend
@@ -37,11 +37,8 @@ line_ascends line = by_ascends (λ cell. in_range (value_at line cell)) (value_a
 
 -- a line has 81 characters
 long : (line : List ℕ) → is_accepted (line_refusal line) ≡ true → 81 ≤ length line
-unfolding line_refusal is_line is_accepted
-long line h =
-    either_cases _ _ (not-false _ (if_passed _ (refusal 36 0 0) refl (or_else_left _ _ h)))
-    (λ t. omega (arith, eqb-true (length line) line_bytes t))
-    (λ t. omega (arith, eqb-true (length line) (line_bytes + 1) (both_left _ _ t)))
+unfolding line_refusal is_accepted
+long line h = long_line line (not-false _ (if_passed _ (refusal 36 0 0) refl (or_else_left _ _ h)))
 
 -- and so has a board's; each is that of its cell
 line_at : (b : Board) (cell : ℕ) → 1 ≤ cell → cell ≤ 81 → at (line_of b) cell ≡ character_at b.given b.digits cell

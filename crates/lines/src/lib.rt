@@ -3,24 +3,31 @@
 // written as a line. Neither is in the original.
 #![tactic(auto)]
 
-ghost use Rattle.std.specs.Prelude.{◌≡◌, true, ◌+◌, ◌≤◌, length};
-ghost use Rattle.sudoku.specs.Tests.{every, listed};
+ghost use Rattle.std.specs.Prelude.{◌≡◌, true, ◌+◌, ◌≤◌, length, IfOk, OnErr};
+ghost use Rattle.sudoku.specs.Tests.{every};
 ghost use Rattle.sudoku.specs.Grid.{at as entry_at};
-ghost use Rattle.puzzle.specs.Refusals.{first_refused};
+ghost use Rattle.puzzle.specs.Refusals.{told};
+ghost use Rattle.puzzle.specs.Givens.{triple_bytes};
 ghost use Rattle.journal.specs.Bytes.{over};
 ghost use Rattle.board.specs.Board.{digit_value};
-ghost use Rattle.lines.specs.Lines.{line_bytes, givens_room, is_line, other_sort, line_refusal, values_of, line_cells, digits_bytes, digits_givens, read_line_of, character_at, write_line_of};
+ghost use Rattle.lines.specs.Errors.{line_error_refusal};
+ghost use Rattle.lines.specs.Lines.{line_bytes, givens_room, is_line, line_refusal, values_of, line_cells, line_givens, digits_bytes, digits_givens};
+ghost use Rattle.lines.specs.Lines.{read_refusal, read_line_of, character_at, line_of, write_line_refusal, write_line_of};
 ghost use Rattle.lines.specs.Code.Triples.{given_bytes};
 
 use board::Board;
+use board::error::PlayError;
 use board::value::is_board;
+use error::LineError;
 use journal::slots::is_given;
-use puzzle::answer::{accepted, refusal};
+use puzzle::answer::accepted;
 use puzzle::text::cell_value;
-use puzzle::{Refusal, byte_at, digit_at};
+use puzzle::{Refusal, digit_at};
 use record::Written;
 use record::write::nothing_written;
 use sudoku::{CELLS, SIDE, column_of, row_of};
+
+pub mod error;
 
 // Bytes of a line that is written.
 pub const LINE_BYTES: usize = CELLS;
@@ -28,6 +35,150 @@ pub const LINE_BYTES: usize = CELLS;
 pub const GIVEN_BYTES: usize = 3;
 
 pub const GIVENS_ROOM: usize = GIVEN_BYTES * CELLS;
+
+// Whether a text has the length of a line: 81 characters, or a line feed behind them.
+#[tactic(auto, unfolding(crate::specs::Lines::is_line, sudoku::specs::Tests::either, sudoku::specs::Tests::both))]
+fn is_line(text: &[u8]) -> bool
+    ensures { result ≡ is_line text.now }
+{
+    text.len() == LINE_BYTES || text.len() == LINE_BYTES + 1 && text[LINE_BYTES] == b'\n'
+}
+
+// The digits of a line, 0 for a blank; a solution may be sent as a line too. Refused by 36 37.
+pub fn line_digits(line: &[u8]) -> Result<[u8; CELLS], LineError>
+    ensures refusal { told line_error_refusal result ≡ line_refusal line.now }
+    ensures digits { IfOk result (λ digits. digits ≡ values_of line.now) }
+{
+    if !is_line(line) {
+        return Err(LineError::NotALine);
+    }
+    let mut digits = [0u8; CELLS];
+    for i in 0..CELLS {
+        let value = cell_value(line[i]);
+        if value > SIDE {
+            return Err(LineError::OtherSort { character: i + 1 });
+        }
+        digits[i] = value;
+    }
+    Ok(digits)
+}
+
+// A cell's digit as a given at an offset, nothing where it holds none; answers where the next one goes.
+#[tactic(auto, unfolding(crate::specs::Code::Triples::given_bytes, puzzle::specs::Puzzle::holds_digit, sudoku::specs::Tests::pick, sudoku::specs::Grid::row_of))]
+fn lay_given(digits: &[u8; 81], cell: usize, output: &mut [u8], at: usize) -> usize
+    requires { (cell ≤ 81) × (at + length (given_bytes digits.now cell) ≤ length output.old) }
+    ensures { (result ≡ at + length (given_bytes digits.now cell)) × (output.new ≡ over output.old at (given_bytes digits.now cell)) }
+{
+    let digit = digit_at(digits, cell);
+    if digit == 0 {
+        return at;
+    }
+    let end = at + GIVEN_BYTES;
+    output[at..end].copy_from_slice(&[row_of(cell) as u8, column_of(cell) as u8, digit]);
+    end
+}
+
+// The digits of 81 cells as givens, in the order of their cells.
+fn lay_givens(digits: &[u8; 81], output: &mut [u8]) -> usize
+    requires { givens_room ≤ length output.old }
+    ensures { (result ≡ length (digits_bytes digits.now)) × (output.new ≡ over output.old 0 (digits_bytes digits.now)) }
+{
+    let mut at = 0;
+    for cell in 1..=CELLS {
+        at = lay_given(digits, cell, output, at);
+    }
+    at
+}
+
+// The digits of a puzzle as givens, for those who have read one otherwise; they are laid into room that is lent.
+pub fn givens_in<'a>(digits: &[u8; CELLS], room: &'a mut [u8; GIVENS_ROOM]) -> &'a [u8]
+    ensures { result.now ≡ digits_bytes digits.now }
+{
+    let length = lay_givens(digits, room);
+    &room[..length]
+}
+
+// Reads a line into givens; answers how many bytes they have.
+#[tactic(auto, unfolding(crate::specs::Lines::read_refusal, puzzle::specs::Refusals::or_else, puzzle::specs::Refusals::refused_if, puzzle::specs::Refusals::is_accepted, sudoku::specs::Tests::pick))]
+fn read(line: &[u8], output: &mut [u8]) -> Result<usize, LineError>
+    ensures refusal { told line_error_refusal result ≡ read_refusal line.now output.old }
+    ensures laid { IfOk result (λ n. (n ≡ length (triple_bytes (line_givens line.now))) × (output.new ≡ over output.old 0 (triple_bytes (line_givens line.now)))) }
+    ensures kept { OnErr result (output.new ≡ output.old) }
+{
+    if output.len() < GIVENS_ROOM {
+        return Err(LineError::OutputTooShort);
+    }
+    let digits = line_digits(line)?;
+    Ok(lay_givens(&digits, output))
+}
+
+// Reads a line into givens as opening takes them. Refused by 34 36 37; the room has to do for 81 givens.
+pub fn read_line(line: &[u8], output: &mut [u8]) -> Written
+    ensures { (result ≡ (read_line_of line.now output.old).answer) × (output.new ≡ (read_line_of line.now output.old).output) }
+{
+    match read(line, output) {
+        Ok(length) => Written {
+            refusal: accepted(),
+            length,
+        },
+        Err(e) => nothing_written(e.into()),
+    }
+}
+
+// The character of a cell: its digit where it is a given, else a full stop, whatever the player has put there.
+#[tactic(auto, unfolding(crate::specs::Lines::character_at, sudoku::specs::Tests::pick))]
+fn character(board: &Board, cell: usize) -> u8
+    requires { entry_at board.now.digits cell ≤ 9 }
+    ensures { result ≡ character_at board.now.given board.now.digits cell }
+{
+    if is_given(&board.given, cell) {
+        b'0' + digit_at(&board.digits, cell)
+    } else {
+        b'.'
+    }
+}
+
+// The characters of the 81 cells.
+fn lay_line(board: &Board, output: &mut [u8])
+    requires { (every (digit_value board.now.digits board.now.given) 81 1 ≡ true) × (line_bytes ≤ length output.old) }
+    ensures { output.new ≡ over output.old 0 (line_of board.now) }
+{
+    for index in 0..CELLS {
+        output[index] = character(board, index + 1);
+    }
+}
+
+// Writes a board's givens as a line; answers how many bytes it has.
+#[tactic(auto, unfolding(crate::specs::Lines::write_line_refusal, puzzle::specs::Refusals::or_else, puzzle::specs::Refusals::refused_if, puzzle::specs::Refusals::is_accepted, sudoku::specs::Tests::pick))]
+fn written(board: &Board, output: &mut [u8]) -> Result<usize, LineError>
+    ensures refusal { told line_error_refusal result ≡ write_line_refusal board.now output.old }
+    ensures laid { IfOk result (λ n. (n ≡ length (line_of board.now)) × (output.new ≡ over output.old 0 (line_of board.now))) }
+    ensures kept { OnErr result (output.new ≡ output.old) }
+{
+    if !is_board(*board) {
+        return Err(PlayError::NotABoard.into());
+    }
+    if output.len() < LINE_BYTES {
+        return Err(LineError::OutputTooShort);
+    }
+    lay_line(board, output);
+    Ok(LINE_BYTES)
+}
+
+// Writes a board's givens as a line, with full stops and without a line feed. Refused by 2 34.
+pub fn write_line(board: Board, output: &mut [u8]) -> Written
+    ensures { (result ≡ (write_line_of board output.old).answer) × (output.new ≡ (write_line_of board output.old).output) }
+{
+    match written(&board, output) {
+        Ok(length) => Written {
+            refusal: accepted(),
+            length,
+        },
+        Err(e) => nothing_written(e.into()),
+    }
+}
+
+// ---- until their callers have moved
 
 // The cells of a line: a digit, or 0 for a blank. Zeros beside a refusal.
 #[derive(Clone, Copy)]
@@ -43,100 +194,20 @@ pub struct Givens {
     pub length: usize,
 }
 
-// Whether a text has the length of a line: 81 characters, or a line feed behind them.
-fn is_line(text: &[u8]) -> bool
-    ensures { result ≡ is_line text.now }
-{
-    if text.len() == LINE_BYTES {
-        return true;
-    }
-    if text.len() != LINE_BYTES + 1 {
-        return false;
-    }
-    byte_at(text, LINE_BYTES) == b'\n'
-}
-
-// 37: the first character of another sort. Nothing is written before all 81 are known to be good.
-fn other_sort(line: &[u8]) -> Refusal
-    ensures { result ≡ first_refused (other_sort line.now) 81 1 }
-{
-    let mut n: usize = 1;
-    while n <= CELLS {
-        if cell_value(byte_at(line, n - 1)) > SIDE {
-            return refusal(37, n, 0);
-        }
-        n += 1;
-    }
-    accepted()
-}
-
-// 36 and 37.
-fn not_a_line(text: &[u8]) -> Refusal
-    ensures { result ≡ line_refusal text.now }
-{
-    if !is_line(text) {
-        return refusal(36, 0, 0);
-    }
-    other_sort(text)
-}
-
-// What each character says of its cell.
-fn values(line: &[u8]) -> [u8; 81]
-    ensures { result ≡ values_of line.now }
-{
-    let mut cells = [0u8; 81];
-    let mut i: usize = 0;
-    while i < CELLS {
-        cells[i] = cell_value(byte_at(line, i));
-        i += 1;
-    }
-    cells
-}
-
 // The cells of a line, which a solution may be sent as too. Refused by 36 37.
 pub fn line_cells(line: &[u8]) -> LineCells
     ensures { result ≡ line_cells line.now }
 {
-    let refused = not_a_line(line);
-    if refused.number != 0 {
-        return LineCells {
-            refusal: refused,
+    match line_digits(line) {
+        Ok(cells) => LineCells {
+            refusal: accepted(),
+            cells,
+        },
+        Err(e) => LineCells {
+            refusal: e.into(),
             cells: [0u8; 81],
-        };
+        },
     }
-    LineCells {
-        refusal: refused,
-        cells: values(line),
-    }
-}
-
-// A cell's digit as a given at an offset, nothing where it holds none; answers where the next one goes.
-fn lay_given(digits: &[u8; 81], cell: usize, output: &mut [u8], at: usize) -> usize
-    requires { (cell ≤ 81) × (at + length (given_bytes digits.now cell) ≤ length output.old) }
-    ensures { (result ≡ at + length (given_bytes digits.now cell)) × (output.new ≡ over output.old at (given_bytes digits.now cell)) }
-{
-    let digit = digit_at(digits, cell);
-    if digit == 0 {
-        return at;
-    }
-    output[at] = row_of(cell) as u8;
-    output[at + 1] = column_of(cell) as u8;
-    output[at + 2] = digit;
-    at + GIVEN_BYTES
-}
-
-// The digits of 81 cells as givens, in the order of their cells.
-fn lay_givens(digits: &[u8; 81], output: &mut [u8]) -> usize
-    requires { givens_room ≤ length output.old }
-    ensures { (result ≡ length (digits_bytes digits.now)) × (output.new ≡ over output.old 0 (digits_bytes digits.now)) }
-{
-    let mut at: usize = 0;
-    let mut cell: usize = 1;
-    while cell <= CELLS {
-        at = lay_given(digits, cell, output, at);
-        cell += 1;
-    }
-    at
 }
 
 // The digits of a puzzle as givens, for those who have read one otherwise.
@@ -145,66 +216,5 @@ pub fn givens_of(digits: &[u8; 81]) -> Givens
 {
     let mut bytes = [0u8; GIVENS_ROOM];
     let length = lay_givens(digits, &mut bytes);
-    Givens {
-        bytes: bytes,
-        length: length,
-    }
-}
-
-// Reads a line into givens as opening takes them. Refused by 34 36 37; the room has to do for 81 givens.
-pub fn read_line(line: &[u8], output: &mut [u8]) -> Written
-    ensures { (result ≡ (read_line_of line.now output.old).answer) × (output.new ≡ (read_line_of line.now output.old).output) }
-{
-    if output.len() < GIVENS_ROOM {
-        return nothing_written(refusal(34, 0, 0));
-    }
-    let read = line_cells(line);
-    let refused = read.refusal;
-    if refused.number != 0 {
-        return nothing_written(refused);
-    }
-    Written {
-        refusal: accepted(),
-        length: lay_givens(&read.cells, output),
-    }
-}
-
-// The character of a cell: its digit where it is a given, else a full stop, whatever the player has put there.
-fn character<'a>(given: &'a [u8; 81], digits: &'a [u8; 81], cell: usize) -> u8
-    requires { entry_at digits.now cell ≤ 9 }
-    ensures { result ≡ character_at given.now digits.now cell }
-{
-    if is_given(given, cell) {
-        return b'0' + digit_at(digits, cell);
-    }
-    b'.'
-}
-
-// The characters of the 81 cells.
-fn lay_line<'a>(given: &'a [u8; 81], digits: &'a [u8; 81], output: &mut [u8])
-    requires { (every (digit_value digits.now given.now) 81 1 ≡ true) × (line_bytes ≤ length output.old) }
-    ensures { output.new ≡ over output.old 0 (listed (character_at given.now digits.now) 81 1) }
-{
-    let mut i: usize = 0;
-    while i < CELLS {
-        output[i] = character(given, digits, i + 1);
-        i += 1;
-    }
-}
-
-// Writes a board's givens as a line, with full stops and without a line feed. Refused by 2 34.
-pub fn write_line(board: Board, output: &mut [u8]) -> Written
-    ensures { (result ≡ (write_line_of board output.old).answer) × (output.new ≡ (write_line_of board output.old).output) }
-{
-    if !is_board(board) {
-        return nothing_written(refusal(2, 0, 0));
-    }
-    if output.len() < LINE_BYTES {
-        return nothing_written(refusal(34, 0, 0));
-    }
-    lay_line(&board.given, &board.digits, output);
-    Written {
-        refusal: accepted(),
-        length: LINE_BYTES,
-    }
+    Givens { bytes, length }
 }

@@ -5,13 +5,13 @@ use mathlib.Core.Path.{◌≡◌, sym, ap, ◌∙◌}
 use mathlib.Core.List.{List, [], ◌∷◌}
 use native.Mathlib.Omega.{arith}
 use borrow.Author.Tests.{eq-eqb, ne_eqb}
-use lib.ListN.{length, length-set}
+use lib.ListN.{length}
 use Rattle.sudoku.specs.Grid.{at, row_of, column_of}
 use Rattle.sudoku.proofs.Walks.{pick_true, pick_false, not_is_true, not_is_false}
 use Rattle.puzzle.specs.Puzzle.{holds_digit}
 use Rattle.journal.specs.Bytes.{over}
 use Rattle.journal.proofs.Memory.{over_nil}
-use Rattle.journal.proofs.Stores.{laid_over, stored}
+use Rattle.journal.proofs.Stores.{copied, laid_over}
 use Rattle.lines.specs.Code.Triples.{given_bytes}
 use Rattle.lines.proofs.lay_given.Goals as goal
 
@@ -32,43 +32,17 @@ returns-then-digit-eq0 c =
     let none = empty a.digits.now a.cell c.digit_at-digit.result c.digit_at-digit.ensures c.if-digit-eq0.true in
     (omega (arith, ap length none), sym (over_nil a.output.now a.at) ∙ ap (over a.output.now a.at) (sym none))
 
-pub overflow_cast-output : goal.overflow_cast-output
-unfolding row_of
-overflow_cast-output c = omega (arith, c.row_of.ensures, c.requires.0)
-
-pub bounds-output-at : goal.bounds-output-at
-bounds-output-at c =
-    let room : c.args.at + 3 ≤ length c.args.output.now = let a = c.args in
-    omega (arith, c.requires.1, ap length (held a.digits.now a.cell c.digit_at-digit.result c.digit_at-digit.ensures c.if-digit-eq0.false)) in
-    omega (arith, room)
-
-pub bounds-output-at-2 : goal.bounds-output-at-2
-bounds-output-at-2 c =
-    let room : c.args.at + 3 ≤ length c.args.output.now = let a = c.args in
-    omega (arith, c.requires.1, ap length (held a.digits.now a.cell c.digit_at-digit.result c.digit_at-digit.ensures c.if-digit-eq0.false)) in
-    simp length-set (omega (arith, room))
-
-pub bounds-output-at-3 : goal.bounds-output-at-3
-bounds-output-at-3 c =
-    let room : c.args.at + 3 ≤ length c.args.output.now = let a = c.args in
-    omega (arith, c.requires.1, ap length (held a.digits.now a.cell c.digit_at-digit.result c.digit_at-digit.ensures c.if-digit-eq0.false)) in
-    simp length-set (omega (arith, room))
-
-pub shape_of-output : goal.shape_of-output
-shape_of-output c = simp length-set
-
 pub returns : goal.returns
 returns c =
-    let room : c.args.at + 3 ≤ length c.args.output.now = let a = c.args in
-    omega (arith, c.requires.1, ap length (held a.digits.now a.cell c.digit_at-digit.result c.digit_at-digit.ensures c.if-digit-eq0.false)) in
     let a = c.args in
     let item = held a.digits.now a.cell c.digit_at-digit.result c.digit_at-digit.ensures c.if-digit-eq0.false in
-    let row = c.row_of.result in
-    let column = c.column_of.result in
-    let digit = c.digit_at-digit.result in (
+    let bytes = c.copy_from_slice.new.self in
+    let same = c.copy_from_slice.ensures.after in
+    let room : a.at + length bytes ≤ length a.output.now = omega (arith, c.requires.1, ap length item, ap length same) in (
       ap (λ (l : List ℕ). a.at + length l) (sym item),
-      stored a.output.now a.at row (column ∷ digit ∷ []) (omega (arith, room))
-          ∙ laid_over a.output.now a.at (row ∷ column ∷ digit ∷ []) (omega (arith, room))
-          ∙ (λ j. over a.output.now a.at (c.row_of.ensures j ∷ c.column_of.ensures.0 j ∷ digit ∷ []))
+      copied a.output.now a.at _ bytes (omega (arith, ap length same)) room
+          ∙ laid_over a.output.now a.at bytes room
+          ∙ ap (over a.output.now a.at) same
+          ∙ (λ j. over a.output.now a.at (c.row_of.ensures j ∷ c.column_of.ensures.0 j ∷ c.digit_at-digit.result ∷ []))
           ∙ ap (over a.output.now a.at) (sym item),
     )

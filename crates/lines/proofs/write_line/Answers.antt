@@ -1,31 +1,23 @@
--- `lines::write_line` meets its contract: 2, then 34, then the line.
+-- `lines::write_line` meets its contract: what was laid, or why nothing was.
 -- Assumes nothing.
-use mathlib.Core.Path.{sym, ap, ◌∙◌}
-use Rattle.puzzle.specs.declared.Refusal.{Refusal}
+use mathlib.Core.Path.{ap, ◌∙◌}
 use Rattle.record.specs.Write.{Wrote, wrote}
-use Rattle.lines.specs.Lines.{line_bytes, line_of}
-use Rattle.board.proofs.Values.{board_digits}
-use Rattle.lines.proofs.Writing.{no_board, no_room, is_written}
+use Rattle.lines.specs.Lines.{write_line_refusal, line_of, write_line_of}
+use Rattle.lines.proofs.Answered.{refused_told, written_told}
 use Rattle.lines.proofs.write_line.Goals as goal
 
-pub returns-then-not-is_board : goal.returns-then-not-is_board
-returns-then-not-is_board c =
+pub returns-in-Ok : goal.returns-in-Ok
+unfolding write_line_of
+returns-in-Ok c =
     let a = c.args in
-    let w = no_board a.board a.output.now (sym c.is_board.ensures ∙ c.if-not-is_board.true) in
-    (c.nothing_written.ensures ∙ ap (λ (x : Refusal). (wrote x 0 a.output.now).answer) c.refusal.ensures ∙ ap (λ (x : Wrote). x.answer) w, ap (λ (x : Wrote). x.output) w)
+    let told = c.in-Ok.ensures in
+    let w = written_told (write_line_refusal a.board a.output.now) (line_of a.board) a.output.now told.refusal in
+    ((λ i. (wrote (c.accepted.ensures i) (told.laid.0 i) a.output.now).answer) ∙ ap (λ (x : Wrote). x.answer) w, told.laid.1 ∙ ap (λ (x : Wrote). x.output) w)
 
-pub returns-then-output-lt-LINE_BYTES : goal.returns-then-output-lt-LINE_BYTES
-returns-then-output-lt-LINE_BYTES c =
+pub returns-in-Err : goal.returns-in-Err
+unfolding write_line_of
+returns-in-Err c =
     let a = c.args in
-    let w = no_room a.board a.output.now (sym c.is_board.ensures ∙ c.if-not-is_board.false) c.if-output-lt-LINE_BYTES.true in
-    (c.nothing_written-then-output-lt-LINE_BYTES.ensures ∙ ap (λ (x : Refusal). (wrote x 0 a.output.now).answer) c.refusal-then-output-lt-LINE_BYTES.ensures ∙ ap (λ (x : Wrote). x.answer) w, ap (λ (x : Wrote). x.output) w)
-
-pub lay_line-requires : goal.lay_line-requires
-lay_line-requires c = (board_digits c.args.board (sym c.is_board.ensures ∙ c.if-not-is_board.false), c.if-output-lt-LINE_BYTES.false)
-
-pub returns : goal.returns
-unfolding line_of
-returns c =
-    let a = c.args in
-    let w = is_written a.board a.output.now (sym c.is_board.ensures ∙ c.if-not-is_board.false) c.if-output-lt-LINE_BYTES.false in
-    (ap (λ (x : Refusal). (wrote x line_bytes a.output.now).answer) c.accepted.ensures ∙ ap (λ (x : Wrote). x.answer) w, c.lay_line.ensures ∙ ap (λ (x : Wrote). x.output) w)
+    let told = c.in-Err.ensures in
+    let w = refused_told (write_line_refusal a.board a.output.now) (line_of a.board) a.output.now c.in-Err.e told.refusal in
+    (c.nothing_written.ensures ∙ (λ i. (wrote (c.into.ensures i) 0 a.output.now).answer) ∙ ap (λ (x : Wrote). x.answer) w, told.kept ∙ ap (λ (x : Wrote). x.output) w)
