@@ -1,8 +1,8 @@
 -- What a command of the console does: which call of the library it names, and what it leaves of the board and its
 -- lent memory. What a command shows no contract can say.
 -- Assumes nothing.
-use Rattle.std.specs.Prelude.{ℕ, ◌≡◌, Bool, not, List, ltb, leb, eqb, Option, Some, None}
-use Rattle.sudoku.specs.Tests.{pick, both, either}
+use Rattle.std.specs.Prelude.{ℕ, ◌≡◌, Bool, true, false, Option, Some, None, option_map, ltb, leb, eqb}
+use Rattle.sudoku.specs.Tests.{pick, both}
 use Rattle.journal.specs.declared.Move.{Move}
 use Rattle.journal.specs.declared.Move.TheVariants.{Place, Erase, WriteMark, StrikeMark}
 use Rattle.board.specs.declared.Board.{Board}
@@ -10,41 +10,13 @@ use Rattle.calls.specs.declared.Call.{Call}
 use Rattle.calls.specs.declared.Call.TheVariants.{Make, Undo, Redo, Check}
 use Rattle.calls.specs.Session.{Session}
 use Rattle.calls.specs.Encoded.{run_one, session}
-use Rattle.texts.specs.declared.Command.{Command}
-use Rattle.texts.specs.Commands.{no_number, value_of}
-use Rattle.texts.specs.Parts.{part_of}
+use Rattle.texts.specs.declared.Verb.{Verb}
+use Rattle.texts.specs.declared.Verb.TheVariants as verb
+use Rattle.texts.specs.Commands.{number_of, Request}
 use Rattle.files.specs.Disk.{Content}
 use Rattle.files.specs.Load.{Left, load_of, load_line}
 use Rattle.commands.specs.declared.Numbers.{Numbers}
-
--- ---- the letters of the commands that change something, as texts' Commands has them: p m s e, u r, c, o, z
-
-abbrev pub letter_place : ℕ
-letter_place = 112
-
-abbrev pub letter_mark : ℕ
-letter_mark = 109
-
-abbrev pub letter_strike : ℕ
-letter_strike = 115
-
-abbrev pub letter_erase : ℕ
-letter_erase = 101
-
-abbrev pub letter_undo : ℕ
-letter_undo = 117
-
-abbrev pub letter_redo : ℕ
-letter_redo = 114
-
-abbrev pub letter_check : ℕ
-letter_check = 99
-
-abbrev pub letter_open : ℕ
-letter_open = 111
-
-abbrev pub letter_puzzle : ℕ
-letter_puzzle = 122
+use Rattle.commands.specs.declared.Game.{Game}
 
 -- ---- the numbers after a command
 
@@ -52,104 +24,115 @@ letter_puzzle = 122
 unfoldable pub narrowed : ℕ → ℕ
 narrowed n = pick (ltb 255 n) 255 n
 
-unfoldable pub is_number : ℕ → Bool
-is_number n = not (eqb n no_number)
-
 -- the third number of a command, 0 where two are wanted
-unfoldable pub third_of : List ℕ → Command → ℕ → ℕ
-third_of line c wanted = pick (eqb wanted 3) (value_of line c.third) 0
+unfoldable pub third_of : Request → ℕ → Option ℕ
+third_of c wanted = pick (eqb wanted 3) (number_of c.third) (Some 0)
 
--- as many words as are wanted, and each is a number
-unfoldable pub are_numbers : Bool → ℕ → ℕ → ℕ → Bool
-are_numbers asMany row column digit = both asMany (both (is_number row) (both (is_number column) (is_number digit)))
+-- each is a number
+unfoldable pub are_numbers : Option ℕ → Option ℕ → Option ℕ → Option Numbers
+are_numbers (Some row) (Some column) (Some digit) = Some (record { row = narrowed row; column = narrowed column; digit = narrowed digit })
+are_numbers _ _ _ = None
 
--- the numbers of a command that wants two or three
-unfoldable pub numbers_of : List ℕ → Command → ℕ → Numbers
-numbers_of line c wanted =
-    let row = value_of line c.first in
-    let column = value_of line c.second in
-    let digit = third_of line c wanted in
-    record {
-      good = are_numbers (eqb c.words wanted) row column digit;
-      row = narrowed row;
-      column = narrowed column;
-      digit = narrowed digit;
-    }
+-- the numbers of a command that wants two or three: as many words as are wanted, and each is a number
+unfoldable pub numbers_of : Request → ℕ → Option Numbers
+numbers_of c wanted =
+    pick (eqb c.words wanted) (are_numbers (number_of c.first) (number_of c.second) (third_of c wanted)) None
 
--- ---- the call that a command names, by its letter; none where its words are not those that it wants
+-- ---- the call that a command names, by its verb; none where its words are not those that it wants
 
--- p place, m mark, s strike, e erase
-unfoldable pub is_move : ℕ → Bool
-is_move verb = either (eqb verb letter_place) (either (eqb verb letter_mark) (either (eqb verb letter_strike) (eqb verb letter_erase)))
+unfoldable pub is_move : Verb → Bool
+is_move verb.Place = true
+is_move verb.Mark = true
+is_move verb.Strike = true
+is_move verb.Erase = true
+is_move _ = false
 
 -- how many numbers a move wants: erase two, any other three
-unfoldable pub wanted_by : ℕ → ℕ
-wanted_by verb = pick (eqb verb letter_erase) 2 3
+unfoldable pub wanted_by : Verb → ℕ
+wanted_by verb.Erase = 2
+wanted_by _ = 3
 
-unfoldable pub move_named : ℕ → Numbers → Move
-move_named verb n =
-    pick (eqb verb letter_place) (Place n.row n.column n.digit)
-    (pick (eqb verb letter_mark) (WriteMark n.row n.column n.digit)
-    (pick (eqb verb letter_strike) (StrikeMark n.row n.column n.digit) (Erase n.row n.column)))
+unfoldable pub move_named : Verb → Numbers → Move
+move_named verb.Place n = Place n.row n.column n.digit
+move_named verb.Mark n = WriteMark n.row n.column n.digit
+move_named verb.Strike n = StrikeMark n.row n.column n.digit
+move_named _ n = Erase n.row n.column
 
-unfoldable pub move_call : List ℕ → Command → Option Call
-move_call line c =
-    let n = numbers_of line c (wanted_by c.verb) in
-    pick n.good (Some (Make (move_named c.verb n))) None
+unfoldable pub move_call : Request → Option Call
+move_call c = option_map (λ n. Make (move_named c.verb n)) (numbers_of c (wanted_by c.verb))
 
--- u undo, r redo
-unfoldable pub is_undo : ℕ → Bool
-is_undo verb = either (eqb verb letter_undo) (eqb verb letter_redo)
+unfoldable pub is_undo : Verb → Bool
+is_undo verb.Undo = true
+is_undo verb.Redo = true
+is_undo _ = false
 
-unfoldable pub undo_call : Command → Option Call
-undo_call c = pick (eqb c.words 0) (Some (pick (eqb c.verb letter_undo) Undo Redo)) None
+-- undo, or redo
+unfoldable pub step_named : Verb → Call
+step_named verb.Undo = Undo
+step_named _ = Redo
 
--- c check
-unfoldable pub check_call : List ℕ → Command → Option Call
-check_call line c =
-    let n = numbers_of line c 2 in
-    pick n.good (Some (Check n.row n.column)) None
+unfoldable pub undo_call : Request → Option Call
+undo_call c = pick (eqb c.words 0) (Some (step_named c.verb)) None
+
+unfoldable pub is_check : Verb → Bool
+is_check verb.Check = true
+is_check _ = false
+
+unfoldable pub check_call : Request → Option Call
+check_call c = option_map (λ n. Check n.row n.column) (numbers_of c 2)
 
 -- any other command names no call
-unfoldable pub command_call : List ℕ → Command → Option Call
-command_call line c =
-    pick (is_move c.verb) (move_call line c)
-    (pick (is_undo c.verb) (undo_call c) (pick (eqb c.verb letter_check) (check_call line c) None))
+unfoldable pub command_call : Request → Option Call
+command_call c =
+    pick (is_move c.verb) (move_call c)
+    (pick (is_undo c.verb) (undo_call c) (pick (is_check c.verb) (check_call c) None))
 
 -- ---- what a command leaves
+
+-- what is played, as the calls' definitions name it
+abbrev pub played : Game → Session
+played g = session g.board g.memory.journal g.memory.checks
 
 -- a board that was opened takes the place of the one that is played; where none was, that one stays
 unfoldable pub taken_up : Board → Left → Session
 taken_up b l = session (pick l.loaded.good l.loaded.board b) l.journal l.checks
 
--- o open: a file, and another for the solution where a second word names one; else the solution that is played
-unfoldable pub open_leaves : List ℕ → Command → Content → Content → Session → Session
-open_leaves line c file answers s =
+-- open: a file, and another for the solution where a second word names one; else the solution that is played
+unfoldable pub open_leaves : Request → Content → Content → Session → Session
+open_leaves c file answers s =
     pick (both (leb 1 c.words) (leb c.words 2))
-    (taken_up s.board (load_of (part_of line c.second.start c.second.end) file answers s.board.solution s.journal s.checks))
+    (taken_up s.board (load_of c.second file answers s.board.solution s.journal s.checks))
     s
 
--- z puzzle: a mailed line and the line of its solution, as two words
-unfoldable pub puzzle_leaves : List ℕ → Command → Session → Session
-puzzle_leaves line c s =
+-- puzzle: a mailed line and the line of its solution, as two words
+unfoldable pub puzzle_leaves : Request → Session → Session
+puzzle_leaves c s =
     pick (eqb c.words 2)
-    (taken_up s.board (load_line (part_of line c.first.start c.first.end) (part_of line c.second.start c.second.end) s.journal s.checks))
+    (taken_up s.board (load_line c.first c.second s.journal s.checks))
     s
+
+unfoldable pub is_open : Verb → Bool
+is_open verb.Open = true
+is_open _ = false
+
+unfoldable pub is_puzzle : Verb → Bool
+is_puzzle verb.Puzzle = true
+is_puzzle _ = false
 
 -- what the files hold matters to open alone. A command that names no call, as line does, leaves all as it was
-unfoldable pub command_leaves : List ℕ → Command → Content → Content → Session → Session
-command_leaves line c file answers s =
-    pick (eqb c.verb letter_open) (open_leaves line c file answers s)
-    (pick (eqb c.verb letter_puzzle) (puzzle_leaves line c s) (run_one s (command_call line c)).left)
+unfoldable pub command_leaves : Request → Content → Content → Session → Session
+command_leaves c file answers s =
+    pick (is_open c.verb) (open_leaves c file answers s)
+    (pick (is_puzzle c.verb) (puzzle_leaves c s) (run_one s (command_call c)).left)
 
 -- what is left is what open leaves of some files
-pub record Opens (line : List ℕ) (c : Command) (before after : Session) : Type 0 where
+pub record Opens (c : Request) (before after : Session) : Type 0 where
   pub file : Content
   pub answers : Content
-  pub leaves : after ≡ open_leaves line c file answers before
+  pub leaves : after ≡ open_leaves c file answers before
 
 -- what is left is what the command leaves, whatever the files hold that it may name
-pub record Performs (line : List ℕ) (c : Command) (before after : Session) : Type 0 where
+pub record Performs (c : Request) (before after : Session) : Type 0 where
   pub file : Content
   pub answers : Content
-  pub leaves : after ≡ command_leaves line c file answers before
+  pub leaves : after ≡ command_leaves c file answers before

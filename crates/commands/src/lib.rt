@@ -1,13 +1,22 @@
 // The commands of the console: each is one call of the library, and what it answers is shown.
 #![tactic(auto)]
 
+use board::Board;
+use files::Memory;
+
 pub mod perform;
 
 // The numbers after a command.
 #[derive(Clone, Copy)]
 pub struct Numbers {
-    pub good: bool,
     pub row: u8,
     pub column: u8,
     pub digit: u8,
+}
+
+// What is played: the board, and the memory that is lent to its calls.
+#[derive(Clone, Copy)]
+pub struct Game {
+    pub board: Board,
+    pub memory: Memory,
 }

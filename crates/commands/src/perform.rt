@@ -1,61 +1,58 @@
 // What each command does: one call of the library, and what it answers shown.
-ghost use Rattle.std.specs.Prelude.{◌≡◌, List, ℕ};
+ghost use Rattle.std.specs.Prelude.{◌≡◌};
 ghost use Rattle.sudoku.specs.Tests.{pick};
-ghost use Rattle.play.specs.Play.{play_of};
-ghost use Rattle.calls.specs.Encoded.{run_one, session};
-ghost use Rattle.commands.specs.Perform.{narrowed, third_of, are_numbers, numbers_of, wanted_by, move_named, move_call, undo_call, check_call, Opens, puzzle_leaves, Performs};
+ghost use Rattle.calls.specs.Encoded.{run_one};
+ghost use Rattle.texts.specs.Commands.{request};
+ghost use Rattle.commands.specs.Perform.{narrowed, third_of, numbers_of, wanted_by, move_named, move_call, undo_call, check_call, played, Opens, puzzle_leaves, Performs};
 
-use crate::Numbers;
+use crate::{Game, Numbers};
 use board::{Answer, Board};
 use files::Loaded;
 use files::disk::save;
 use files::load::{load, load_line};
+use journal::Move;
 use journal::slots::slot_at;
-use journal::{CHECK_MEMORY, JOURNAL_BYTES};
 use lines::{LINE_BYTES, write_line};
 use play::checks::check;
-use play::moves::{erase, place, strike_mark, write_mark};
-use play::shown::{latest, next};
+use play::moves::play;
+use play::shown::{latest_slot, next_slot};
 use print::deeds::{made, verdict};
 use print::drawing::{keys, position, whole};
 use print::words::explain;
-use print::{number, say, shown};
-use puzzle::answer::refusal;
+use print::{Printable, say, show};
 use puzzle::digit_at;
 use readings::read::reading;
 use record::RECORD_BYTES;
 use record::write::write;
 use std::rt::Files;
 use sudoku::cell_of;
-use texts::commands::{NO_NUMBER, value};
-use texts::{Command, part};
+use texts::commands::number;
+use texts::{Command, Verb};
 use undo::{redo, undo};
 
-// What the commands of play want.
-fn wanted_of_play(verb: u8) {
+// What a command wants.
+fn wants(verb: Verb) -> &'static str {
     match verb {
-        b'p' => say(b"place wants a row, a column and a digit, as in: place 1 3 4\n"),
-        b'm' => say(b"mark wants a row, a column and a digit, as in: mark 1 3 4\n"),
-        b's' => say(b"strike wants a row, a column and a digit, as in: strike 1 3 4\n"),
-        b'e' => say(b"erase wants a row and a column, as in: erase 1 3\n"),
-        _ => say(b"check wants a row and a column, as in: check 1 3\n"),
+        Verb::Place => "place wants a row, a column and a digit, as in: place 1 3 4",
+        Verb::Mark => "mark wants a row, a column and a digit, as in: mark 1 3 4",
+        Verb::Strike => "strike wants a row, a column and a digit, as in: strike 1 3 4",
+        Verb::Erase => "erase wants a row and a column, as in: erase 1 3",
+        Verb::Check => "check wants a row and a column, as in: check 1 3",
+        Verb::Move => "move wants the number of a move, as in: move 1",
+        Verb::Save => "save wants the name of a file, without blanks",
+        Verb::Open => {
+            "open wants a record or a puzzle, and may have its solution: names of files without blanks"
+        }
+        Verb::Puzzle => {
+            "puzzle wants a line of 81 characters and the 81 digits of its solution, as two words"
+        }
+        _ => "that command stands alone",
     }
 }
 
-// What a command wants.
-fn wanted(verb: u8) {
-    match verb {
-        b'p' | b'm' | b's' | b'e' | b'c' => wanted_of_play(verb),
-        b'k' => say(b"move wants the number of a move, as in: move 1\n"),
-        b'w' => say(b"save wants the name of a file, without blanks\n"),
-        b'o' => say(
-            b"open wants a record or a puzzle, and may have its solution: names of files without blanks\n",
-        ),
-        b'z' => say(
-            b"puzzle wants a line of 81 characters and the 81 digits of its solution, as two words\n",
-        ),
-        _ => say(b"that command stands alone\n"),
-    }
+// Says what a command wants.
+fn want(verb: Verb) {
+    show(format_args!("{}\n", wants(verb)));
 }
 
 fn help() {
@@ -85,160 +82,65 @@ Marks stand small, each at its own place.\n",
 }
 
 // A number as a byte. What is no byte is no row, no column and no digit either, and 255 is none of these.
+#[tactic(auto, unfolding(crate::specs::Perform::narrowed, sudoku::specs::Tests::pick))]
 fn narrow(n: usize) -> u8
     ensures { result ≡ narrowed n }
 {
-    if n > 255 {
-        return 255;
-    }
-    n as u8
+    u8::try_from(n).unwrap_or(255)
 }
 
 // The third number of a command, 0 where two are wanted.
-fn third(line: &[u8], command: Command, wanted: usize) -> usize
-    ensures { result ≡ third_of line.now command wanted }
+#[tactic(auto, unfolding(crate::specs::Perform::third_of, sudoku::specs::Tests::pick))]
+fn third(command: Command<'_>, wanted: usize) -> Option<usize>
+    ensures { result ≡ third_of (request command.entry) wanted }
 {
     if wanted == 3 {
-        return value(line, command.third);
+        return number(command.third);
     }
-    0
+    Some(0)
 }
 
-// Whether there are as many words as are wanted, and each is a number.
-fn are_numbers(as_many: bool, row: usize, column: usize, digit: usize) -> bool
-    ensures { result ≡ are_numbers as_many row column digit }
+// The numbers of a command that wants two or three; none where it has not as many words, or one that is no number.
+#[tactic(auto, unfolding(crate::specs::Perform::numbers_of, crate::specs::Perform::are_numbers, sudoku::specs::Tests::pick))]
+fn numbers(command: Command<'_>, wanted: usize) -> Option<Numbers>
+    ensures { result ≡ numbers_of (request command.entry) wanted }
 {
-    if !as_many {
-        return false;
+    if command.words != wanted {
+        return None;
     }
-    if row == NO_NUMBER {
-        return false;
-    }
-    if column == NO_NUMBER {
-        return false;
-    }
-    digit != NO_NUMBER
-}
-
-// The numbers of a command that wants two or three.
-fn numbered(line: &[u8], command: Command, wanted: usize) -> Numbers
-    ensures { result ≡ numbers_of line.now command wanted }
-{
-    let row = value(line, command.first);
-    let column = value(line, command.second);
-    let digit = third(line, command, wanted);
-    Numbers {
-        good: are_numbers(command.words == wanted, row, column, digit),
+    let row = number(command.first)?;
+    let column = number(command.second)?;
+    let digit = third(command, wanted)?;
+    Some(Numbers {
         row: narrow(row),
         column: narrow(column),
         digit: narrow(digit),
-    }
-}
-
-// The board after a call: drawn, or with the refusal's words.
-fn settled(answer: Answer, coloured: bool) -> Board
-    ensures { result ≡ answer.board }
-{
-    let refused = answer.refusal;
-    let board = answer.board;
-    if refused.number != 0 {
-        explain(refused);
-        return board;
-    }
-    whole(board, coloured);
-    board
-}
-
-// One of the four moves.
-fn played(verb: u8, n: Numbers, board: Board, journal: &mut [u8; JOURNAL_BYTES]) -> Answer
-    ensures { (result ≡ (play_of board journal.old (move_named verb n)).answer) × (journal.new ≡ (play_of board journal.old (move_named verb n)).journal) }
-{
-    match verb {
-        b'p' => place(board, journal, n.row, n.column, n.digit),
-        b'm' => write_mark(board, journal, n.row, n.column, n.digit),
-        b's' => strike_mark(board, journal, n.row, n.column, n.digit),
-        _ => erase(board, journal, n.row, n.column),
-    }
+    })
 }
 
 // How many numbers a move wants.
-fn move_words(verb: u8) -> usize
+#[tactic(auto, unfolding(crate::specs::Perform::wanted_by))]
+fn move_words(verb: Verb) -> usize
     ensures { result ≡ wanted_by verb }
 {
-    if verb == b'e' {
-        return 2;
+    match verb {
+        Verb::Erase => 2,
+        _ => 3,
     }
-    3
 }
 
-fn move_command(
-    line: &[u8],
-    command: Command,
-    board: Board,
-    journal: &mut [u8; JOURNAL_BYTES],
-    coloured: bool,
-) -> Board
-    ensures { (checks : List ℕ) → session result journal.new checks ≡ (run_one (session board journal.old checks) (move_call line.now command)).left }
+// The move that a command names.
+#[tactic(auto, unfolding(crate::specs::Perform::move_named))]
+fn move_named(verb: Verb, n: Numbers) -> Move
+    ensures { result ≡ move_named verb n }
 {
-    let verb = command.verb;
-    let n = numbered(line, command, move_words(verb));
-    if !n.good {
-        wanted(verb);
-        return board;
+    let Numbers { row, column, digit } = n;
+    match verb {
+        Verb::Place => Move::Place { row, column, digit },
+        Verb::Mark => Move::WriteMark { row, column, digit },
+        Verb::Strike => Move::StrikeMark { row, column, digit },
+        _ => Move::Erase { row, column },
     }
-    settled(played(verb, n, board, journal), coloured)
-}
-
-// Undo and redo.
-fn undo_command(
-    command: Command,
-    board: Board,
-    journal: &[u8; JOURNAL_BYTES],
-    coloured: bool,
-) -> Board
-    ensures { (checks : List ℕ) → session result journal.now checks ≡ (run_one (session board journal.now checks) (undo_call command)).left }
-{
-    let verb = command.verb;
-    if command.words != 0 {
-        wanted(verb);
-        return board;
-    }
-    if verb == b'u' {
-        return settled(undo(board, journal), coloured);
-    }
-    settled(redo(board, journal), coloured)
-}
-
-fn check_command(
-    line: &[u8],
-    command: Command,
-    board: Board,
-    checks: &mut [u8; CHECK_MEMORY],
-    coloured: bool,
-) -> Board
-    ensures { (journal : List ℕ) → session result journal checks.new ≡ (run_one (session board journal checks.old) (check_call line.now command)).left }
-{
-    let n = numbered(line, command, 2);
-    if !n.good {
-        wanted(command.verb);
-        return board;
-    }
-    let answer = check(board, checks, n.row, n.column);
-    let refused = answer.refusal;
-    let after = answer.board;
-    if refused.number != 0 {
-        explain(refused);
-        return after;
-    }
-    whole(after, coloured);
-    verdict(
-        after.standing,
-        n.row,
-        n.column,
-        digit_at(&after.digits, cell_of(n.row, n.column)),
-        answer.right,
-    );
-    after
 }
 
 // The board's own line: its givens, whatever was played.
@@ -251,223 +153,224 @@ fn show_line(board: Board) {
         return;
     }
     say(&line);
-    say(b"\n");
+    show("\n");
 }
 
-// The latest standing move.
-fn show_latest(board: Board, journal: &[u8; JOURNAL_BYTES]) {
-    let mut refused: u8 = 0;
-    let slot = slot_at(latest(board, journal, &mut refused), 1);
-    if refused != 0 {
-        explain(refusal(refused, 0, 0));
-        return;
-    }
-    made(board.standing, slot, false);
-}
-
-// The next move to redo. It is numbered from those that stand, and a board has far fewer than a number holds.
-fn show_next(board: Board, journal: &[u8; JOURNAL_BYTES]) {
-    let mut refused: u8 = 0;
-    let slot = slot_at(next(board, journal, &mut refused), 1);
-    let standing = board.standing;
-    if refused != 0 {
-        explain(refusal(refused, 0, 0));
-        return;
-    }
-    if standing < board.made {
-        made(standing + 1, slot, true);
-    }
-}
-
-// The reading of move k.
-fn read_move(
-    line: &[u8],
-    command: Command,
-    board: Board,
-    journal: &[u8; JOURNAL_BYTES],
-    coloured: bool,
-) {
-    let k = value(line, command.first);
-    if command.words != 1 {
-        wanted(b'k');
-        return;
-    }
-    if k == NO_NUMBER {
-        wanted(b'k');
-        return;
-    }
-    let r = reading(board, journal, k);
-    let refused = r.refusal;
-    if refused.number != 0 {
-        explain(refused);
-        return;
-    }
-    position(&r.digits, &board.given, &r.notes, coloured);
-    made(k, slot_at(journal, k), r.undone);
-}
-
-// Saves the first bytes of a record.
-fn keep<R: Files>(rt: &R, path: &[u8], record: &[u8; RECORD_BYTES], length: usize) {
-    if save(rt, path, part(record, 0, length)) {
-        say(b"saved in ");
-        shown(path);
-        say(b", ");
-        number(length);
-        say(b" bytes\n");
-    }
-}
-
-fn save_command<R: Files>(
-    rt: &R,
-    line: &[u8],
-    command: Command,
-    board: Board,
-    journal: &[u8; JOURNAL_BYTES],
-    checks: &[u8; CHECK_MEMORY],
-) {
-    if command.words != 1 {
-        wanted(b'w');
-        return;
-    }
-    let mut out = [0u8; RECORD_BYTES];
-    let written = write(board, journal, checks, &mut out);
-    let refused = written.refusal;
-    if refused.number != 0 {
-        explain(refused);
-        return;
-    }
-    let name = command.first;
-    keep(rt, part(line, name.start, name.end), &out, written.length);
-}
-
-// The board that was opened, drawn; where none was, the one that is played.
-fn taken_up(loaded: Loaded, board: Board, coloured: bool) -> Board
-    ensures { result ≡ pick loaded.good loaded.board board }
-{
-    if !loaded.good {
-        return board;
-    }
-    let opened = loaded.board;
-    whole(opened, coloured);
-    opened
-}
-
-fn open_command<R: Files>(
-    rt: &R,
-    line: &[u8],
-    command: Command,
-    board: Board,
-    journal: &mut [u8; JOURNAL_BYTES],
-    checks: &mut [u8; CHECK_MEMORY],
-    coloured: bool,
-) -> Board
-    ensures { Opens line.now command (session board journal.old checks.old) (session result journal.new checks.new) }
-{
-    if command.words < 1 {
-        wanted(b'o');
-        return board;
-    }
-    if command.words > 2 {
-        wanted(b'o');
-        return board;
-    }
-    let first = command.first;
-    let second = command.second;
-    let path = part(line, first.start, first.end);
-    let solution = part(line, second.start, second.end);
-    let loaded = load(rt, path, solution, &board.solution, journal, checks);
-    taken_up(loaded, board, coloured)
-}
-
-// A mailed line and the line of its solution, as two words.
-fn puzzle_command(
-    line: &[u8],
-    command: Command,
-    board: Board,
-    journal: &mut [u8; JOURNAL_BYTES],
-    checks: &mut [u8; CHECK_MEMORY],
-    coloured: bool,
-) -> Board
-    ensures { session result journal.new checks.new ≡ puzzle_leaves line.now command (session board journal.old checks.old) }
-{
-    if command.words != 2 {
-        wanted(b'z');
-        return board;
-    }
-    let first = command.first;
-    let second = command.second;
-    let mailed = part(line, first.start, first.end);
-    let solution = part(line, second.start, second.end);
-    let loaded = load_line(mailed, solution, journal, checks);
-    taken_up(loaded, board, coloured)
-}
-
-// Whether a letter is that of a command that has no words after it.
-fn stands_alone(verb: u8) -> bool {
-    match verb {
-        b'l' | b'n' | b'd' | b'b' | b'i' | b'h' | b'q' => true,
-        _ => false,
-    }
-}
-
-// The commands that show something and change nothing.
-fn show_command(
-    line: &[u8],
-    command: Command,
-    board: Board,
-    journal: &[u8; JOURNAL_BYTES],
-    coloured: bool,
-) {
-    let verb = command.verb;
-    if verb == b'k' {
-        read_move(line, command, board, journal, coloured);
-        return;
-    }
-    if !stands_alone(verb) {
-        say(b"no such command: help lists them\n");
-        return;
-    }
-    if command.words != 0 {
-        wanted(verb);
-        return;
-    }
-    match verb {
-        b'l' => show_latest(board, journal),
-        b'n' => show_next(board, journal),
-        b'd' => keys(&board.digits),
-        b'b' => whole(board, coloured),
-        b'i' => show_line(board),
-        _ => help(),
-    }
-}
-
-// A command performed; the board afterwards.
-pub fn perform<R: Files>(
-    rt: &R,
-    line: &[u8],
-    command: Command,
-    board: Board,
-    journal: &mut [u8; JOURNAL_BYTES],
-    checks: &mut [u8; CHECK_MEMORY],
-    coloured: bool,
-) -> Board
-    ensures { Performs line.now command (session board journal.old checks.old) (session result journal.new checks.new) }
-{
-    let verb = command.verb;
-    match verb {
-        b'p' | b'm' | b's' | b'e' => move_command(line, command, board, journal, coloured),
-        b'u' | b'r' => undo_command(command, board, journal, coloured),
-        b'c' => check_command(line, command, board, checks, coloured),
-        b'o' => open_command(rt, line, command, board, journal, checks, coloured),
-        b'z' => puzzle_command(line, command, board, journal, checks, coloured),
-        b'w' => {
-            save_command(rt, line, command, board, journal, checks);
-            board
+impl Game {
+    // The board after a call: drawn, or with the refusal's words.
+    fn settle(&mut self, answer: Answer, coloured: bool)
+        ensures { played self.new ≡ record (played self.old) { board = answer.board } }
+    {
+        self.board = answer.board;
+        let refused = answer.refusal;
+        if refused.number != 0 {
+            explain(refused);
+            return;
         }
-        b'\n' => board,
-        _ => {
-            show_command(line, command, board, journal, coloured);
-            board
+        whole(self.board, coloured);
+    }
+
+    // One of the four moves.
+    #[tactic(auto, unfolding(crate::specs::Perform::move_call, calls::specs::Encoded::run_one, calls::specs::Session::call_of, calls::specs::Session::called))]
+    fn make(&mut self, command: Command<'_>, coloured: bool)
+        ensures { played self.new ≡ (run_one (played self.old) (move_call (request command.entry))).left }
+    {
+        let verb = command.verb;
+        let Some(n) = numbers(command, move_words(verb)) else {
+            want(verb);
+            return;
+        };
+        let answer = play(self.board, &mut self.memory.journal, move_named(verb, n));
+        self.settle(answer, coloured);
+    }
+
+    // Undo and redo.
+    #[tactic(auto, unfolding(crate::specs::Perform::undo_call, crate::specs::Perform::step_named, sudoku::specs::Tests::pick, calls::specs::Encoded::run_one, calls::specs::Session::call_of, calls::specs::Session::called))]
+    fn step(&mut self, command: Command<'_>, coloured: bool)
+        ensures { played self.new ≡ (run_one (played self.old) (undo_call (request command.entry))).left }
+    {
+        let verb = command.verb;
+        if command.words != 0 {
+            want(verb);
+            return;
         }
+        if verb == Verb::Undo {
+            let answer = undo(self.board, &self.memory.journal);
+            self.settle(answer, coloured);
+            return;
+        }
+        let answer = redo(self.board, &self.memory.journal);
+        self.settle(answer, coloured);
+    }
+
+    // A check of the player's digit.
+    #[tactic(auto, unfolding(crate::specs::Perform::check_call, calls::specs::Encoded::run_one, calls::specs::Session::call_of, calls::specs::Session::called))]
+    fn check(&mut self, command: Command<'_>, coloured: bool)
+        ensures { played self.new ≡ (run_one (played self.old) (check_call (request command.entry))).left }
+    {
+        let Some(n) = numbers(command, 2) else {
+            want(command.verb);
+            return;
+        };
+        let answer = check(self.board, &mut self.memory.checks, n.row, n.column);
+        self.board = answer.board;
+        let refused = answer.refusal;
+        if refused.number != 0 {
+            explain(refused);
+            return;
+        }
+        whole(self.board, coloured);
+        let digit = digit_at(&self.board.digits, cell_of(n.row, n.column));
+        verdict(self.board.standing, n.row, n.column, digit, answer.right);
+    }
+
+    // The latest standing move.
+    fn show_latest(&self) {
+        match latest_slot(self.board, &self.memory.journal) {
+            Ok(slot) => made(self.board.standing, slot_at(slot, 1), false),
+            Err(e) => explain(e.into()),
+        }
+    }
+
+    // The next move to redo. It is numbered from those that stand, and a board has far fewer than a number holds.
+    fn show_next(&self) {
+        match next_slot(self.board, &self.memory.journal) {
+            Ok(slot) => made(
+                self.board.standing.saturating_add(1),
+                slot_at(slot, 1),
+                true,
+            ),
+            Err(e) => explain(e.into()),
+        }
+    }
+
+    // The reading of move k.
+    fn read_move(&self, command: Command<'_>, coloured: bool) {
+        let Some(k) = number(command.first).filter(|_| command.words == 1) else {
+            want(Verb::Move);
+            return;
+        };
+        let r = reading(self.board, &self.memory.journal, k);
+        let refused = r.refusal;
+        if refused.number != 0 {
+            explain(refused);
+            return;
+        }
+        position(&r.digits, &self.board.given, &r.notes, coloured);
+        made(k, slot_at(&self.memory.journal, k), r.undone);
+    }
+
+    // Saves the game under a name.
+    fn save<R: Files>(&self, rt: &R, command: Command<'_>) {
+        if command.words != 1 {
+            want(Verb::Save);
+            return;
+        }
+        let mut out = [0u8; RECORD_BYTES];
+        let written = write(
+            self.board,
+            &self.memory.journal,
+            &self.memory.checks,
+            &mut out,
+        );
+        let refused = written.refusal;
+        if refused.number != 0 {
+            explain(refused);
+            return;
+        }
+        let record = out.get(..written.length).unwrap_or(&[]);
+        if save(rt, command.first, record) {
+            show(format_args!(
+                "saved in {}, {} bytes\n",
+                Printable(command.first),
+                written.length
+            ));
+        }
+    }
+
+    // The board that was opened, drawn; where none was, the one that is played stays.
+    #[tactic(auto, unfolding(sudoku::specs::Tests::pick))]
+    fn take_up(&mut self, loaded: Loaded, coloured: bool)
+        ensures { played self.new ≡ record (played self.old) { board = pick loaded.good loaded.board self.old.board } }
+    {
+        if loaded.good {
+            self.board = loaded.board;
+            whole(self.board, coloured);
+        }
+    }
+
+    // A file, and another for the solution where a second word names one.
+    fn open<R: Files>(&mut self, rt: &R, command: Command<'_>, coloured: bool)
+        ensures { Opens (request command.entry) (played self.old) (played self.new) }
+    {
+        if command.words < 1 || command.words > 2 {
+            want(Verb::Open);
+            return;
+        }
+        let loaded = load(
+            rt,
+            command.first,
+            command.second,
+            &self.board.solution,
+            &mut self.memory.journal,
+            &mut self.memory.checks,
+        );
+        self.take_up(loaded, coloured);
+    }
+
+    // A mailed line and the line of its solution, as two words.
+    #[tactic(auto, unfolding(crate::specs::Perform::puzzle_leaves, crate::specs::Perform::taken_up, sudoku::specs::Tests::pick))]
+    fn open_line(&mut self, command: Command<'_>, coloured: bool)
+        ensures { played self.new ≡ puzzle_leaves (request command.entry) (played self.old) }
+    {
+        if command.words != 2 {
+            want(Verb::Puzzle);
+            return;
+        }
+        let loaded = load_line(
+            command.first,
+            command.second,
+            &mut self.memory.journal,
+            &mut self.memory.checks,
+        );
+        self.take_up(loaded, coloured);
+    }
+
+    // The commands that have no words after them, show something and change nothing.
+    fn show_alone(&self, verb: Verb, coloured: bool) {
+        match verb {
+            Verb::Latest => self.show_latest(),
+            Verb::Next => self.show_next(),
+            Verb::Left => keys(&self.board.digits),
+            Verb::Board => whole(self.board, coloured),
+            Verb::Line => show_line(self.board),
+            _ => help(),
+        }
+    }
+
+    // The commands that show something and change nothing.
+    fn show(&self, command: Command<'_>, coloured: bool) {
+        match command.verb {
+            Verb::Move => self.read_move(command, coloured),
+            Verb::Unknown => show("no such command: help lists them\n"),
+            verb if command.words != 0 => want(verb),
+            verb => self.show_alone(verb, coloured),
+        }
+    }
+}
+
+// A command performed.
+pub fn perform<R: Files>(rt: &R, game: &mut Game, command: Command<'_>, coloured: bool)
+    ensures { Performs (request command.entry) (played game.old) (played game.new) }
+{
+    match command.verb {
+        Verb::Place | Verb::Mark | Verb::Strike | Verb::Erase => game.make(command, coloured),
+        Verb::Undo | Verb::Redo => game.step(command, coloured),
+        Verb::Check => game.check(command, coloured),
+        Verb::Open => game.open(rt, command, coloured),
+        Verb::Puzzle => game.open_line(command, coloured),
+        Verb::Save => game.save(rt, command),
+        Verb::NoWord => {}
+        _ => game.show(command, coloured),
     }
 }

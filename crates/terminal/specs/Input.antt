@@ -1,32 +1,38 @@
 -- A line of the input: which bytes it takes, in order and none lost, and what is kept of them. Which bytes the input
 -- brings no contract can say: a contract says that there are such bytes.
 -- Assumes nothing.
-use Rattle.std.specs.Prelude.{ℕ, ◌+◌, ◌≤◌, ◌≡◌, Bool, true, false, not, List, [], ◌∷◌, ◌++◌, ltb, eqb, length, get_or, set, take, drop}
+use Rattle.std.specs.Prelude.{ℕ, ◌+◌, ◌≤◌, ◌≡◌, Bool, true, not, List, [], ◌∷◌, ◌++◌, Option, Some, None, IfSome, ltb, eqb, length, get_or, set, take, drop, replicate}
 use Rattle.sudoku.specs.Tests.{pick, both}
-use Rattle.terminal.specs.declared.Byte.{Byte}
-use Rattle.terminal.specs.declared.Line.{Line}
+use Rattle.terminal.specs.declared.input.Input.{Input}
+use Rattle.terminal.specs.declared.input.Line.{Line}
 
 -- ---- bytes
 
--- what of a buffer was read and is not used
-unfoldable pub unused : List ℕ → ℕ → ℕ → List ℕ
-unused buffer at end = drop at (take end buffer)
+-- what of the input was read and is not used
+unfoldable pub unused : Input → List ℕ
+unused i = drop i.at (take i.end i.buffer)
 
--- the next byte of those that were read
-unfoldable pub taken_at : List ℕ → ℕ → ℕ → Byte
-taken_at buffer at end =
-    pick (ltb at end) (record { at = at + 1; end = end; byte = get_or buffer at 0; ended = false })
-    (record { at = at; end = end; byte = 0; ended = true })
+-- no more was read than the buffer holds
+abbrev pub Within : Input → Type 0
+Within i = i.end ≤ length i.buffer
+
+-- the next byte of those that were read, and what is left behind it
+unfoldable pub taken_at : Input → Option ℕ
+taken_at i = pick (ltb i.at i.end) (Some (get_or i.buffer i.at 0)) None
+
+unfoldable pub behind : Input → Input
+behind i = pick (ltb i.at i.end) (record i { at = i.at + 1 }) i
 
 -- a byte that came; none where the input ended
-unfoldable pub came : Byte → List ℕ
-came b = pick b.ended [] (b.byte ∷ [])
+unfoldable pub came : Option ℕ → List ℕ
+came None = []
+came (Some byte) = byte ∷ []
 
--- a byte was taken from a buffer, or from what was read into it anew once all in it was used: none is lost
-pub record ByteTaken (buffer : List ℕ) (at end : ℕ) (after : List ℕ) (b : Byte) : Type 0 where
+-- a byte was taken from what was read, or from what was read anew once all that was used: none is lost
+pub record ByteTaken (before after : Input) (byte : Option ℕ) : Type 0 where
   pub anew : List ℕ
-  pub all : end ≤ length buffer → unused buffer at end ++ anew ≡ came b ++ unused after b.at b.end
-  pub within : end ≤ length buffer → b.end ≤ length after
+  pub all : Within before → unused before ++ anew ≡ came byte ++ unused after
+  pub within : Within before → Within after
 
 -- ---- lines
 
@@ -34,22 +40,20 @@ pub record ByteTaken (buffer : List ℕ) (at end : ℕ) (after : List ℕ) (b : 
 abbrev pub line_bytes : ℕ
 line_bytes = 256
 
--- a line's memory, and how long the line is: one more than it may have where a byte found no room
-pub record Kept : Type 0 where
-  pub memory : List ℕ
-  pub length : ℕ
-
-abbrev pub kept : List ℕ → ℕ → Kept
+abbrev pub kept : List ℕ → ℕ → Line
 kept memory length = record { memory = memory; length = length }
 
--- a byte more at the end of a line; what finds no room is dropped
-unfoldable pub with_byte : Kept → ℕ → Kept
-with_byte k byte =
-    pick (ltb k.length line_bytes) (kept (set k.memory k.length byte) (k.length + 1)) (kept k.memory (line_bytes + 1))
+unfoldable pub empty_line : Line
+empty_line = kept (replicate 256 0) 0
 
-unfoldable pub with_bytes : Kept → List ℕ → Kept
-with_bytes k [] = k
-with_bytes k (byte ∷ bytes) = with_bytes (with_byte k byte) bytes
+-- a byte more at the end of a line; what finds no room is dropped
+unfoldable pub with_byte : Line → ℕ → Line
+with_byte l byte =
+    pick (ltb l.length line_bytes) (kept (set l.memory l.length byte) (l.length + 1)) (kept l.memory (line_bytes + 1))
+
+unfoldable pub with_bytes : Line → List ℕ → Line
+with_bytes l [] = l
+with_bytes l (byte ∷ bytes) = with_bytes (with_byte l byte) bytes
 
 -- none of the bytes is a line's end
 unfoldable pub is_line : List ℕ → Bool
@@ -60,14 +64,18 @@ is_line (byte ∷ bytes) = both (not (eqb byte 10)) (is_line bytes)
 unfoldable pub line_end : Bool → List ℕ
 line_end closed = pick closed (10 ∷ []) []
 
--- a line was read into memory: its bytes, up to its end, are what was in the buffer and not used, and what was read into it
--- anew; what follows them is in the buffer afterwards
-pub record LineRead (memory buffer : List ℕ) (at end : ℕ) (memoryAfter bufferAfter : List ℕ) (got : Line) : Type 0 where
+-- the line has the bytes, and one more than it may have where a byte found no room
+pub record Keeps (bytes : List ℕ) (l : Line) : Type 0 where
+  pub keeps : l ≡ with_bytes empty_line bytes
+  pub fits : l.length ≤ line_bytes + 1
+
+-- a line was read: its bytes, up to its end, are what was read and not used, and what was read anew; what follows them is
+-- not used afterwards
+pub record LineRead (before after : Input) (got : Option Line) : Type 0 where
   pub bytes : List ℕ
   pub line : is_line bytes ≡ true
   pub closed : Bool
   pub anew : List ℕ
-  pub all : end ≤ length buffer → unused buffer at end ++ anew ≡ bytes ++ (line_end closed ++ unused bufferAfter got.at got.end)
-  pub within : end ≤ length buffer → got.end ≤ length bufferAfter
-  pub keeps : kept memoryAfter got.length ≡ with_bytes (kept memory 0) bytes
-  pub fits : got.length ≤ line_bytes + 1
+  pub all : Within before → unused before ++ anew ≡ bytes ++ (line_end closed ++ unused after)
+  pub within : Within before → Within after
+  pub kept : IfSome got (Keeps bytes)

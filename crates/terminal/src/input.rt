@@ -1,109 +1,123 @@
 // Lines of any length, of bytes of any kind, from standard input.
 ghost use Rattle.std.specs.Prelude.{◌≡◌, ◌+◌, ◌≤◌, length};
-ghost use Rattle.terminal.specs.Input.{taken_at, ByteTaken, line_bytes, kept, with_byte, LineRead};
 
-use crate::{Byte, Line};
 use puzzle::byte_at;
 use std::io::Read;
 
 // Bytes of input that are read at once.
-pub const INPUT_BYTES: usize = 4096;
+const INPUT_BYTES: usize = 4096;
 // The most bytes of a line that is taken.
 pub const LINE_BYTES: usize = 256;
 
-// The next byte of those that were read.
-fn taken(buffer: &[u8; INPUT_BYTES], at: usize, end: usize) -> Byte
-    ensures { result ≡ taken_at buffer.now at end }
-{
-    if at < end {
-        return Byte {
-            at: at + 1,
-            end: end,
-            byte: byte_at(buffer, at),
-            ended: false,
-        };
-    }
-    Byte {
-        at: at,
-        end: end,
-        byte: 0,
-        ended: true,
-    }
-}
-
-// Reads what the input has, and answers how many bytes came: none where it ended or cannot be read.
-fn read_anew(rt: &HostRuntime, buffer: &mut [u8; INPUT_BYTES]) -> usize
-    ensures { result ≤ length buffer.new }
-{
-    let mut input = rt.stdin();
-    match input.read(buffer) {
-        Ok(came) => came,
-        Err(_) => 0,
-    }
-}
-
-// The next byte of the input, read anew where all that were read are used.
-fn next_byte(rt: &HostRuntime, buffer: &mut [u8; INPUT_BYTES], at: usize, end: usize) -> Byte
-    ensures { ByteTaken buffer.old at end buffer.new result }
-{
-    if at < end {
-        return taken(buffer, at, end);
-    }
-    let more = read_anew(rt, buffer);
-    taken(buffer, 0, more)
-}
-
-// A byte at the end of a line; what finds no room is dropped, and the line is too long.
-fn put(line: &mut [u8; LINE_BYTES], n: usize, byte: u8) -> usize
-    ensures { (kept line.new result ≡ with_byte (kept line.old n) byte) × (result ≤ line_bytes + 1) }
-{
-    if n < LINE_BYTES {
-        line[n] = byte;
-        return n + 1;
-    }
-    LINE_BYTES + 1
-}
-
-fn line_of(b: Byte, length: usize, ended: bool) -> Line
-    ensures { result ≡ record { at = b.at; end = b.end; length = length; ended = ended } }
-{
-    Line {
-        at: b.at,
-        end: b.end,
-        length: length,
-        ended: ended,
-    }
-}
-
-// The next line. A proved loop has to end, and nothing says that a line does, so the loop counts its turns down from a
-// number that no line uses up.
-pub fn read_line(
-    rt: &HostRuntime,
-    buffer: &mut [u8; INPUT_BYTES],
+// Standard input: what of it was read and is not used stands in the buffer from `at` on, before `end`.
+#[derive(Clone, Copy)]
+pub struct Input {
+    buffer: [u8; INPUT_BYTES],
     at: usize,
     end: usize,
-    line: &mut [u8; LINE_BYTES],
-) -> Line
-    ensures { LineRead line.old buffer.old at end line.new buffer.new result }
-{
-    let mut turns = u64::MAX;
-    let mut n: usize = 0;
-    let mut b = Byte {
-        at: at,
-        end: end,
-        byte: 0,
-        ended: false,
-    };
-    while turns > 0 {
-        b = next_byte(rt, buffer, b.at, b.end);
-        if b.ended {
-            return line_of(b, n, n == 0);
+}
+
+// A line, in the first bytes of its memory; one longer than the memory where a byte found no room.
+#[derive(Clone, Copy)]
+pub struct Line {
+    memory: [u8; LINE_BYTES],
+    length: usize,
+}
+
+impl Line {
+    ghost use Rattle.terminal.specs.Input.{line_bytes, empty_line, with_byte};
+
+    #[tactic(auto, unfolding(crate::specs::Input::empty_line))]
+    fn new() -> Line
+        ensures { result ≡ empty_line }
+    {
+        Line {
+            memory: [0u8; LINE_BYTES],
+            length: 0,
         }
-        if b.byte == b'\n' {
-            return line_of(b, n, false);
-        }
-        n = put(line, n, b.byte);
-        turns -= 1;
     }
-    line_of(b, n, true)
+
+    // A byte at the end of the line; what finds no room is dropped, and the line is too long.
+    #[tactic(auto, unfolding(crate::specs::Input::with_byte, sudoku::specs::Tests::pick))]
+    fn put(&mut self, byte: u8)
+        ensures line { self.new ≡ with_byte self.old byte }
+        ensures fits { self.new.length ≤ line_bytes + 1 }
+    {
+        if self.length < LINE_BYTES {
+            self.memory[self.length] = byte;
+            self.length += 1;
+        } else {
+            self.length = LINE_BYTES + 1;
+        }
+    }
+
+    // The bytes of the line; none where it is too long.
+    pub fn text(&self) -> Option<&[u8]> {
+        self.memory.get(..self.length)
+    }
+}
+
+impl Input {
+    ghost use Rattle.terminal.specs.Input.{taken_at, behind, ByteTaken, LineRead};
+
+    pub fn new() -> Input {
+        Input {
+            buffer: [0u8; INPUT_BYTES],
+            at: 0,
+            end: 0,
+        }
+    }
+
+    // The next byte of those that were read.
+    #[tactic(auto, unfolding(crate::specs::Input::taken_at, crate::specs::Input::behind, sudoku::specs::Tests::pick))]
+    fn taken(&mut self) -> Option<u8>
+        ensures byte { result ≡ taken_at self.old }
+        ensures behind { self.new ≡ behind self.old }
+    {
+        if self.at >= self.end {
+            return None;
+        }
+        let byte = byte_at(&self.buffer, self.at);
+        self.at += 1;
+        Some(byte)
+    }
+
+    // Reads what the input has: nothing where it ended or cannot be read.
+    fn read_anew(&mut self, rt: &HostRuntime)
+        ensures start { self.new.at ≡ 0 }
+        ensures within { self.new.end ≤ length self.new.buffer }
+    {
+        let mut input = rt.stdin();
+        self.at = 0;
+        self.end = input.read(&mut self.buffer).unwrap_or(0);
+    }
+
+    // The next byte of the input, read anew where all that were read are used; none where it ended.
+    fn next_byte(&mut self, rt: &HostRuntime) -> Option<u8>
+        ensures { ByteTaken self.old self.new result }
+    {
+        if self.at < self.end {
+            return self.taken();
+        }
+        self.read_anew(rt);
+        self.taken()
+    }
+
+    // The next line; none where the input ended. A proved loop has to end, and nothing says that a line does, so the
+    // loop has more turns than any line uses.
+    pub fn read_line(&mut self, rt: &HostRuntime) -> Option<Line>
+        ensures { LineRead self.old self.new result }
+    {
+        let mut line = Line::new();
+        for _ in 0..u64::MAX {
+            let Some(byte) = self.next_byte(rt) else {
+                return if line.length == 0 { None } else { Some(line) };
+            };
+            if byte == b'\n' {
+                return Some(line);
+            }
+            line.put(byte);
+        }
+        None
+    }
 }

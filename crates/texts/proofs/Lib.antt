@@ -1,2 +1,3 @@
-pub mod FirstNot
+pub mod Figures
 pub mod Grid
+pub mod Names

@@ -1,9 +1,12 @@
 -- A line of the console taken apart: the letter of its command, and the words after it.
 -- Assumes nothing.
-use Rattle.std.specs.Prelude.{ℕ, zero, suc, ◌+◌, ◌-◌, ◌*◌, Bool, true, false, not, List, [], ◌∷◌, ltb, leb, eqb, length, get_or}
-use Rattle.sudoku.specs.Tests.{pick, both, either, bit, every, run, ◌⇒◌, first}
+use Rattle.std.specs.Prelude.{ℕ, ◌+◌, ◌-◌, ◌*◌, Bool, not, List, [], ◌∷◌, Option, Some, None, option_and_then, unwrap_or, ltb, leb, eqb, length, get_or, take, drop}
+use Rattle.std.specs.List.{position_or_len}
+use Rattle.sudoku.specs.Tests.{pick, both, either, bit, every, ◌⇒◌, first}
 use Rattle.texts.specs.Parts.{part_of}
 use Rattle.texts.specs.declared.Word.{Word}
+use Rattle.texts.specs.declared.Verb.{Verb}
+use Rattle.texts.specs.declared.Verb.TheVariants.{Place, Erase, Mark, Strike, Undo, Redo, Check, Latest, Next, Move, Left, Board, Save, Open, Puzzle, Line, Help, Quit, NoWord, Unknown}
 use Rattle.texts.specs.declared.Command.{Command}
 
 -- two texts are the same
@@ -14,44 +17,42 @@ is_same a b = both (eqb (length a) (length b)) (every (λ i. eqb (get_or a i 0) 
 unfoldable pub is_blank : ℕ → Bool
 is_blank byte = either (eqb byte 32) (either (eqb byte 9) (eqb byte 13))
 
--- the first of the n places from i on at which f does not hold, and the place behind them where it holds at all
-unfoldable pub first_not : (ℕ → Bool) → ℕ → ℕ → ℕ
-first_not f zero i = i
-first_not f (suc n) i = pick (f i) (first_not f n (suc i)) i
+-- a line from its first byte on that is no blank
+unfoldable pub from_word : List ℕ → List ℕ
+from_word line = drop (position_or_len (λ byte. not (is_blank byte)) line) line
 
--- a walk over blanks, or over what is none, goes on at a place
-unfoldable pub goes_on : List ℕ → Bool → ℕ → Bool
-goes_on line true i = is_blank (get_or line i 0)
-goes_on line false i = not (is_blank (get_or line i 0))
+-- the first word of a line; an empty one at the end of the line
+unfoldable pub word_of : List ℕ → List ℕ
+word_of line = take (position_or_len is_blank (from_word line)) (from_word line)
 
--- where such a walk ends that starts at a place
-unfoldable pub skipped : List ℕ → ℕ → Bool → ℕ
-skipped line from blanks = first_not (goes_on line blanks) (length line - from) from
-
--- the next word from a place on; an empty one at the end of the line
-unfoldable pub word_at : List ℕ → ℕ → Word
-word_at line from = record { start = skipped line from true; end = skipped line (skipped line from true) false }
+-- what of the line follows that word
+unfoldable pub behind_word : List ℕ → List ℕ
+behind_word line = drop (position_or_len is_blank (from_word line)) (from_word line)
 
 -- 1 where a word is there, 0 where it is empty
-unfoldable pub counted : Word → ℕ
-counted w = bit (ltb w.start w.end)
+unfoldable pub counted : List ℕ → ℕ
+counted word = bit (ltb 0 (length word))
+
+-- a number with one more figure, which counts as at most 65,535; none where that is no figure
+unfoldable pub with_figure : ℕ → ℕ → Option ℕ
+with_figure n byte =
+    pick (both (leb 48 byte) (leb byte 57)) (Some (pick (ltb 6000 n) 65535 (10 * n + (byte - 48)))) None
+
+-- a number with the figures of a text behind it; none where one of them is no figure
+unfoldable pub with_figures : ℕ → List ℕ → Option ℕ
+with_figures n [] = Some n
+with_figures n (byte ∷ text) = option_and_then (λ m. with_figures m text) (with_figure n byte)
+
+-- the number that a text says; an empty one says none
+unfoldable pub number_of : List ℕ → Option ℕ
+number_of text = pick (eqb (length text) 0) None (with_figures 0 text)
 
 -- what is no number; more than any number of a line counts as
 abbrev pub no_number : ℕ
 no_number = 100000
 
--- a number with one more figure, which counts as at most 65,535
-unfoldable pub with_figure : ℕ → ℕ → ℕ
-with_figure n byte =
-    pick (either (eqb n no_number) (not (both (leb 48 byte) (leb byte 57)))) no_number
-    (pick (ltb 6000 n) 65535 (10 * n + (byte - 48)))
-
--- the number that a text says
-unfoldable pub number_of : List ℕ → ℕ
-number_of text = pick (eqb (length text) 0) no_number (run (λ n i. with_figure n (get_or text i 0)) 0 (length text) 0)
-
 unfoldable pub value_of : List ℕ → Word → ℕ
-value_of line w = number_of (part_of line w.start w.end)
+value_of line w = unwrap_or (number_of (part_of line w.start w.end)) no_number
 
 -- the letters of the commands by their names; 0 for another name. Of play: place p, erase e, mark m, strike s, undo u,
 -- redo r, check c
@@ -94,18 +95,56 @@ verb_of name =
 abbrev pub no_verb : ℕ
 no_verb = 10
 
-unfoldable pub line_verb : List ℕ → Word → ℕ
-line_verb line name = pick (ltb name.start name.end) (verb_of (part_of line name.start name.end)) no_verb
+unfoldable pub line_verb : List ℕ → ℕ
+line_verb name = pick (ltb 0 (length name)) (verb_of name) no_verb
+
+-- the command of a letter
+unfoldable pub verb_of_letter : ℕ → Verb
+verb_of_letter letter =
+    pick (eqb letter 112) Place
+    (pick (eqb letter 101) Erase
+    (pick (eqb letter 109) Mark
+    (pick (eqb letter 115) Strike
+    (pick (eqb letter 117) Undo
+    (pick (eqb letter 114) Redo
+    (pick (eqb letter 99) Check
+    (pick (eqb letter 108) Latest
+    (pick (eqb letter 110) Next
+    (pick (eqb letter 107) Move
+    (pick (eqb letter 100) Left
+    (pick (eqb letter 98) Board
+    (pick (eqb letter 119) Save
+    (pick (eqb letter 111) Open
+    (pick (eqb letter 122) Puzzle
+    (pick (eqb letter 105) Line
+    (pick (eqb letter 104) Help
+    (pick (eqb letter 113) Quit
+    (pick (eqb letter no_verb) NoWord Unknown))))))))))))))))))
+
+-- the command of the letter of a name; none where no name was found
+unfoldable pub found : ℕ → Option Verb
+found letter = pick (eqb letter 0) None (Some (verb_of_letter letter))
+
+-- what a command says: its verb, how many words follow it, and the first three of them
+pub record Request : Type 0 where
+  pub verb : Verb
+  pub words : ℕ
+  pub first : List ℕ
+  pub second : List ℕ
+  pub third : List ℕ
+
+abbrev pub request : Command → Request
+request c = record { verb = c.verb; words = c.words; first = c.first.now; second = c.second.now; third = c.third.now }
 
 -- the command that a line is, with the words that follow its first, of which at most four count
-unfoldable pub command_after : List ℕ → Word → Word → Word → Word → Word → Command
-command_after line name one two three four =
-    record { verb = line_verb line name; words = counted one + counted two + counted three + counted four; first = one; second = two; third = three }
+unfoldable pub command_after : List ℕ → List ℕ → List ℕ → List ℕ → List ℕ → Request
+command_after name one two three four =
+    record { verb = verb_of_letter (line_verb name); words = counted one + counted two + counted three + counted four; first = one; second = two; third = three }
 
-unfoldable pub command_of : List ℕ → Command
+unfoldable pub command_of : List ℕ → Request
 command_of line =
-    let name = word_at line 0 in
-    let one = word_at line name.end in
-    let two = word_at line one.end in
-    let three = word_at line two.end in
-    command_after line name one two three (word_at line three.end)
+    let behind_name = behind_word line in
+    let behind_one = behind_word behind_name in
+    let behind_two = behind_word behind_one in
+    let behind_three = behind_word behind_two in
+    command_after (word_of line) (word_of behind_name) (word_of behind_one) (word_of behind_two) (word_of behind_three)

@@ -1,240 +1,233 @@
 // A line taken apart into its command and the words after it.
-ghost use Rattle.std.specs.Prelude.{◌≡◌, ◌≤◌};
-ghost use Rattle.texts.specs.Commands.{is_same, is_blank, goes_on, skipped, word_at, counted, with_figure, number_of, value_of, verb_of_play, verb_of_rest, verb_of, line_verb, command_of};
+ghost use Rattle.std.specs.Prelude.{◌≡◌, ◌≤◌, not, length};
+ghost use Rattle.std.specs.List.{position_or_len};
+ghost use Rattle.sudoku.specs.Tests.{pick, either, both, bit};
+ghost use Rattle.texts.specs.Commands.{is_same, is_blank, word_of, behind_word, counted, with_figure, number_of, value_of, verb_of_play, verb_of_rest, verb_of, verb_of_letter, found, line_verb, request, command_of};
 
-use crate::{Command, Word, part};
-use puzzle::byte_at;
-use sudoku::wide;
+use crate::{Command, Verb, Word, part};
 
-// What is no number, and more than any number of a line counts as.
+// What is no number, and more than any number of a line counts as; until its callers have moved.
 pub const NO_NUMBER: usize = 100000;
-// The letter of a line without a word: its end, which no line holds.
-pub const NO_VERB: u8 = b'\n';
 
-// Whether two texts are the same.
-pub fn same(a: &[u8], b: &[u8]) -> bool
+// Whether two texts are the same. The two sides of == have one type, which a text and a name have here.
+fn same(a: &[u8], b: &[u8]) -> bool
     ensures { result ≡ is_same a.now b.now }
 {
-    if a.len() != b.len() {
-        return false;
-    }
-    let mut i: usize = 0;
-    while i < a.len() {
-        if byte_at(a, i) != byte_at(b, i) {
-            return false;
-        }
-        i += 1;
-    }
-    true
+    a == b
 }
 
 // A blank, a tab, or what some systems put before a line's end.
+#[tactic(auto, unfolding(crate::specs::Commands::is_blank, sudoku::specs::Tests::either))]
 fn is_blank(byte: u8) -> bool
     ensures { result ≡ is_blank byte }
 {
-    if byte == b' ' {
-        return true;
-    }
-    if byte == b'\t' {
-        return true;
-    }
-    byte == b'\r'
+    matches!(byte, b' ' | b'\t' | b'\r')
 }
 
-// Whether a walk over blanks, or over what is none, goes on at i.
-fn goes_on(line: &[u8], blanks: bool, i: usize) -> bool
-    ensures { result ≡ goes_on line.now blanks i }
+// How many bytes of a text stand before its first word.
+fn blanks(text: &[u8]) -> usize
+    ensures { (result ≡ position_or_len (λ byte. not (is_blank byte)) text.now) × (result ≤ length text.now) }
 {
-    let blank = is_blank(byte_at(line, i));
-    if blanks {
-        return blank;
-    }
-    !blank
+    let first = text.iter().position(|byte| !is_blank(*byte));
+    first.unwrap_or(text.len())
 }
 
-// The first place from `from` on that is no blank, or that is one; the end of the line where there is none.
-fn skip(line: &[u8], from: usize, blanks: bool) -> usize
-    ensures { result ≡ skipped line.now from blanks }
+// How many bytes of a text stand before its first blank.
+fn word_length(text: &[u8]) -> usize
+    ensures { (result ≡ position_or_len is_blank text.now) × (result ≤ length text.now) }
 {
-    let mut i = from;
-    while i < line.len() {
-        if !goes_on(line, blanks, i) {
-            return i;
-        }
-        i += 1;
-    }
-    i
+    let first = text.iter().position(|byte| is_blank(*byte));
+    first.unwrap_or(text.len())
 }
 
-// The next word; an empty one at the end of the line.
-fn word(line: &[u8], from: usize) -> Word
-    ensures { result ≡ word_at line.now from }
+// The first word of a line, and what follows it; an empty word where there is none.
+#[tactic(auto, unfolding(crate::specs::Commands::word_of, crate::specs::Commands::behind_word, crate::specs::Commands::from_word))]
+fn word(line: &[u8]) -> (&[u8], &[u8])
+    ensures word { result.0.now ≡ word_of line.now }
+    ensures behind { result.1.now ≡ behind_word line.now }
 {
-    let start = skip(line, from, true);
-    Word {
-        start: start,
-        end: skip(line, start, false),
-    }
+    let rest = &line[blanks(line)..];
+    rest.split_at(word_length(rest))
 }
 
-// 1 where a word is there, 0 where it is empty.
-fn count(w: Word) -> usize
-    ensures { (result ≡ counted w) × (result ≤ 1) }
-{
-    if w.start < w.end {
-        return 1;
-    }
-    0
-}
-
-// A number with one more figure, held below what is no number.
-fn with_figure(n: usize, byte: u8) -> usize
+// A number with one more figure; more than 6000 and a figure is held at 65,535.
+#[tactic(auto, unfolding(crate::specs::Commands::with_figure, sudoku::specs::Tests::pick, sudoku::specs::Tests::both))]
+fn with_figure(n: usize, byte: u8) -> Option<usize>
     ensures { result ≡ with_figure n byte }
 {
-    if n == NO_NUMBER {
-        return NO_NUMBER;
+    match byte {
+        b'0'..=b'9' if n > 6000 => Some(65535),
+        b'0'..=b'9' => Some(10 * n + usize::from(byte - b'0')),
+        _ => None,
     }
-    if byte < 48 {
-        return NO_NUMBER;
-    }
-    if byte > 57 {
-        return NO_NUMBER;
-    }
-    if n > 6000 {
-        return 65535;
-    }
-    10 * n + wide(byte - 48)
 }
 
 // The number that a text says.
-fn number(text: &[u8]) -> usize
+pub fn number(text: &[u8]) -> Option<usize>
     ensures { result ≡ number_of text.now }
 {
-    if text.len() == 0 {
-        return NO_NUMBER;
+    if text.is_empty() {
+        return None;
     }
     let mut n: usize = 0;
-    let mut i: usize = 0;
-    while i < text.len() {
-        n = with_figure(n, text[i]);
-        i += 1;
+    for byte in text {
+        n = with_figure(n, *byte)?;
     }
-    n
+    Some(n)
 }
 
-// The number that a word says.
+// The number that a word says; until its callers have moved.
+#[tactic(auto, unfolding(crate::specs::Commands::value_of))]
 pub fn value(line: &[u8], w: Word) -> usize
     ensures { result ≡ value_of line.now w }
 {
-    number(part(line, w.start, w.end))
+    number(part(line, w.start, w.end)).unwrap_or(NO_NUMBER)
 }
 
-// The letter of the commands of play.
-fn verb_of_play(name: &[u8]) -> u8
-    ensures { result ≡ verb_of_play name.now }
+// The command of a letter.
+#[tactic(auto, unfolding(crate::specs::Commands::verb_of_letter, sudoku::specs::Tests::pick))]
+fn verb_of_letter(letter: u8) -> Verb
+    ensures { result ≡ verb_of_letter letter }
+{
+    match letter {
+        b'p' => Verb::Place,
+        b'e' => Verb::Erase,
+        b'm' => Verb::Mark,
+        b's' => Verb::Strike,
+        b'u' => Verb::Undo,
+        b'r' => Verb::Redo,
+        b'c' => Verb::Check,
+        b'l' => Verb::Latest,
+        b'n' => Verb::Next,
+        b'k' => Verb::Move,
+        b'd' => Verb::Left,
+        b'b' => Verb::Board,
+        b'w' => Verb::Save,
+        b'o' => Verb::Open,
+        b'z' => Verb::Puzzle,
+        b'i' => Verb::Line,
+        b'h' => Verb::Help,
+        b'q' => Verb::Quit,
+        b'\n' => Verb::NoWord,
+        _ => Verb::Unknown,
+    }
+}
+
+// The command of play that a name says. Not by a match on the name: its proof has a goal for each byte at which the names
+// part.
+fn verb_of_play(name: &[u8]) -> Option<Verb>
+    ensures { result ≡ found (verb_of_play name.now) }
 {
     if same(name, b"place") {
-        return b'p';
+        return Some(Verb::Place);
     }
     if same(name, b"erase") {
-        return b'e';
+        return Some(Verb::Erase);
     }
     if same(name, b"mark") {
-        return b'm';
+        return Some(Verb::Mark);
     }
     if same(name, b"strike") {
-        return b's';
+        return Some(Verb::Strike);
     }
     if same(name, b"undo") {
-        return b'u';
+        return Some(Verb::Undo);
     }
     if same(name, b"redo") {
-        return b'r';
+        return Some(Verb::Redo);
     }
     if same(name, b"check") {
-        return b'c';
+        return Some(Verb::Check);
     }
-    0
+    None
 }
 
-// The letter of the commands that show something, and of those for files and lines.
-fn verb_of_rest(name: &[u8]) -> u8
-    ensures { result ≡ verb_of_rest name.now }
+// The command that a name says of those that show something, and of those for files and lines.
+fn verb_of_rest(name: &[u8]) -> Option<Verb>
+    ensures { result ≡ found (verb_of_rest name.now) }
 {
     if same(name, b"latest") {
-        return b'l';
+        return Some(Verb::Latest);
     }
     if same(name, b"next") {
-        return b'n';
+        return Some(Verb::Next);
     }
     if same(name, b"move") {
-        return b'k';
+        return Some(Verb::Move);
     }
     if same(name, b"left") {
-        return b'd';
+        return Some(Verb::Left);
     }
     if same(name, b"board") {
-        return b'b';
+        return Some(Verb::Board);
     }
     if same(name, b"save") {
-        return b'w';
+        return Some(Verb::Save);
     }
     if same(name, b"open") {
-        return b'o';
+        return Some(Verb::Open);
     }
     if same(name, b"puzzle") {
-        return b'z';
+        return Some(Verb::Puzzle);
     }
     if same(name, b"line") {
-        return b'i';
+        return Some(Verb::Line);
     }
     if same(name, b"help") {
-        return b'h';
+        return Some(Verb::Help);
     }
     if same(name, b"quit") {
-        return b'q';
+        return Some(Verb::Quit);
     }
-    0
+    None
 }
 
-// The letter of a command: the name itself where it has one letter.
-fn verb_of(name: &[u8]) -> u8
-    ensures { result ≡ verb_of name.now }
+// The command of a name: a name of one letter is itself the letter.
+fn verb_of(name: &[u8]) -> Verb
+    ensures { result ≡ verb_of_letter (verb_of name.now) }
 {
-    if name.len() == 1 {
-        return byte_at(name, 0);
+    match name {
+        [letter] => verb_of_letter(*letter),
+        _ => verb_of_play(name)
+            .or(verb_of_rest(name))
+            .unwrap_or(Verb::Unknown),
     }
-    let verb = verb_of_play(name);
-    if verb == 0 {
-        return verb_of_rest(name);
-    }
-    verb
 }
 
-// The letter of a line whose first word is given.
-fn line_verb(line: &[u8], name: Word) -> u8
-    ensures { result ≡ line_verb line.now name }
+// The command of a line whose first word is given.
+#[tactic(auto, unfolding(crate::specs::Commands::line_verb, crate::specs::Commands::verb_of_letter, sudoku::specs::Tests::pick))]
+fn line_verb(name: &[u8]) -> Verb
+    ensures { result ≡ verb_of_letter (line_verb name.now) }
 {
-    if name.start < name.end {
-        return verb_of(part(line, name.start, name.end));
+    if name.is_empty() {
+        return Verb::NoWord;
     }
-    NO_VERB
+    verb_of(name)
+}
+
+// 1 where a word is there, 0 where it is empty.
+#[tactic(auto, unfolding(crate::specs::Commands::counted, sudoku::specs::Tests::bit))]
+fn count(word: &[u8]) -> usize
+    ensures { (result ≡ counted word.now) × (result ≤ 1) }
+{
+    usize::from(!word.is_empty())
 }
 
 // A line taken apart.
-pub fn taken_apart(line: &[u8]) -> Command
-    ensures { result ≡ command_of line.now }
+#[tactic(auto, unfolding(crate::specs::Commands::command_of, crate::specs::Commands::command_after))]
+pub fn taken_apart(line: &[u8]) -> Command<'_>
+    ensures { request result ≡ command_of line.now }
 {
-    let name = word(line, 0);
-    let first = word(line, name.end);
-    let second = word(line, first.end);
-    let third = word(line, second.end);
-    let fourth = word(line, third.end);
+    let (name, rest) = word(line);
+    let (one, rest) = word(rest);
+    let (two, rest) = word(rest);
+    let (three, rest) = word(rest);
+    let (four, _) = word(rest);
     Command {
-        verb: line_verb(line, name),
-        words: count(first) + count(second) + count(third) + count(fourth),
-        first: first,
-        second: second,
-        third: third,
+        verb: line_verb(name),
+        words: count(one) + count(two) + count(three) + count(four),
+        first: one,
+        second: two,
+        third: three,
     }
 }

@@ -26,22 +26,47 @@ pub enum CellsError {
     Few { count: usize },
 }
 
-// A word of a line: where it starts, and where it ends.
+// A word of a line: where it starts, and where it ends; until its callers have moved.
 #[derive(Clone, Copy)]
 pub struct Word {
     pub start: usize,
     pub end: usize,
 }
 
-// A line taken apart: the letter of its command, how many words follow (four stand for more), and the first three of
-// them.
+// The commands of a player, and what stands for one where a line has no word, or one that is no command.
+#[derive(Clone, Copy, PartialEq, Eq)]
+pub enum Verb {
+    Place,
+    Erase,
+    Mark,
+    Strike,
+    Undo,
+    Redo,
+    Check,
+    Latest,
+    Next,
+    Move,
+    Left,
+    Board,
+    Save,
+    Open,
+    Puzzle,
+    Line,
+    Help,
+    Quit,
+    NoWord,
+    Unknown,
+}
+
+// A line taken apart: its command, how many words follow (four stand for more), and the first three of them, empty
+// where they are not there.
 #[derive(Clone, Copy)]
-pub struct Command {
-    pub verb: u8,
+pub struct Command<'a> {
+    pub verb: Verb,
     pub words: usize,
-    pub first: Word,
-    pub second: Word,
-    pub third: Word,
+    pub first: &'a [u8],
+    pub second: &'a [u8],
+    pub third: &'a [u8],
 }
 
 // The part of some bytes from `start` on, before `end`; none where they have no such part.

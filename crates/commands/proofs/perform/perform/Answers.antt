@@ -1,107 +1,56 @@
 -- `commands::perform::perform` meets its contract. Only open looks at files.
 -- Assumes nothing.
-use mathlib.Core.Path.{refl, ◌∙◌}
-use mathlib.Core.Logic.{inl, inr, ⊎_elim}
-use borrow.Author.Tests.{ne_eqb}
-use Rattle.sudoku.specs.Tests.{either}
-use Rattle.calls.specs.Encoded.{session}
-use Rattle.files.specs.Disk.{unread}
-use Rattle.commands.specs.Perform.{is_move, is_undo}
-use Rattle.commands.proofs.Performing.{not_move, not_undo, by_open, by_puzzle, by_move, by_undo, by_check, by_none, by_other}
+use Rattle.std.proofs.Common.{refl, ap}
+use mathlib.Core.Logic.{⊎_elim}
+use Rattle.texts.specs.declared.Verb.TheVariants as verb
+use Rattle.texts.specs.Commands.{request}
+use Rattle.commands.specs.Perform.{played, is_move, is_undo, is_check, is_open, is_puzzle}
+use Rattle.commands.proofs.Performing.{by_move, by_undo, by_check, by_open, by_puzzle, by_none, no_move, no_undo, no_check_lem, no_open, no_puzzle}
 use Rattle.commands.proofs.perform.perform.Goals as goal
 
-pub returns-in-112 : goal.returns-in-112
-unfolding is_move either
-returns-in-112 g c =
-    let a = c.args in
-    let at = by_move a.line.now a.command unread unread (session a.board a.journal.now a.checks.now) in
-    record {
-      file = unread;
-      answers = unread;
-      leaves =
-          c.move_command.ensures a.checks.now
-          ∙ ⊎_elim (λ e. at 101 e refl refl refl)
-          (⊎_elim (λ e. at 109 e refl refl refl)
-          (⊎_elim (λ e. at 112 e refl refl refl) (λ e. at 115 e refl refl refl)))
-          c.in-112.is;
-    }
+pub returns-in-Place : goal.returns-in-Place
+unfolding is_move is_open is_puzzle
+returns-in-Place g c =
+    let move = by_move (request c.args.command) (played c.args.game.now) (played c.make.new.self) in
+    ⊎_elim (move verb.Place refl refl refl c.make.ensures)
+    (⊎_elim (move verb.Mark refl refl refl c.make.ensures)
+    (⊎_elim (move verb.Strike refl refl refl c.make.ensures) (move verb.Erase refl refl refl c.make.ensures)))
+    c.in-Place.is
 
-pub returns-in-117 : goal.returns-in-117
-unfolding is_move is_undo either
-returns-in-117 g c =
-    let a = c.args in
-    let at = by_undo a.line.now a.command unread unread (session a.board a.journal.now a.checks.now) in
-    record {
-      file = unread;
-      answers = unread;
-      leaves =
-          c.undo_command.ensures a.checks.now
-          ∙ ⊎_elim (λ e. at 114 e refl refl refl refl) (λ e. at 117 e refl refl refl refl) c.in-117.is;
-    }
+pub returns-in-Undo : goal.returns-in-Undo
+unfolding is_move is_undo is_open is_puzzle
+returns-in-Undo g c =
+    let undo = by_undo (request c.args.command) (played c.args.game.now) (played c.step.new.self) in
+    ⊎_elim (undo verb.Undo refl refl refl refl c.step.ensures) (undo verb.Redo refl refl refl refl c.step.ensures) c.in-Undo.is
 
-pub returns-in-99 : goal.returns-in-99
-returns-in-99 g c =
-    let a = c.args in
-    record {
-      file = unread;
-      answers = unread;
-      leaves = c.check_command.ensures a.journal.now ∙ by_check a.line.now a.command unread unread (session a.board a.journal.now a.checks.now) c.in-99.is;
-    }
+pub returns-in-Check : goal.returns-in-Check
+returns-in-Check g c = by_check (request c.args.command) (played c.args.game.now) (played c.check.new.self) c.check.ensures c.in-Check.is
 
-pub returns-in-111 : goal.returns-in-111
-returns-in-111 g c =
-    let a = c.args in
-    let o = c.open_command.ensures in
-    record {
-      file = o.file;
-      answers = o.answers;
-      leaves = o.leaves ∙ by_open a.line.now a.command o.file o.answers (session a.board a.journal.now a.checks.now) c.in-111.is;
-    }
+pub returns-in-Open : goal.returns-in-Open
+returns-in-Open g c = by_open (request c.args.command) (played c.args.game.now) (played c.open.new.self) c.open.ensures c.in-Open.is
 
-pub returns-in-122 : goal.returns-in-122
-returns-in-122 g c =
-    let a = c.args in
-    record {
-      file = unread;
-      answers = unread;
-      leaves = c.puzzle_command.ensures ∙ by_puzzle a.line.now a.command unread unread (session a.board a.journal.now a.checks.now) c.in-122.is;
-    }
+pub returns-in-Puzzle : goal.returns-in-Puzzle
+returns-in-Puzzle g c = by_puzzle (request c.args.command) (played c.args.game.now) (played c.open_line.new.self) c.open_line.ensures c.in-Puzzle.is
 
-pub returns-in-119 : goal.returns-in-119
-unfolding is_move is_undo either
-returns-in-119 g c =
-    let a = c.args in
-    record {
-      file = unread;
-      answers = unread;
-      leaves = by_other a.line.now a.command unread unread (session a.board a.journal.now a.checks.now) 119 c.in-119.is refl refl refl refl refl;
-    }
+pub returns-in-Save : goal.returns-in-Save
+unfolding is_move is_undo is_check is_open is_puzzle
+returns-in-Save g c =
+    let is = c.in-Save.is in
+    by_none (request c.args.command) (played c.args.game.now) (ap is_move is) (ap is_undo is) (ap is_check is) (ap is_open is) (ap is_puzzle is)
 
-pub returns-in-10 : goal.returns-in-10
-unfolding is_move is_undo either
-returns-in-10 g c =
-    let a = c.args in
-    record {
-      file = unread;
-      answers = unread;
-      leaves = by_other a.line.now a.command unread unread (session a.board a.journal.now a.checks.now) 10 c.in-10.is refl refl refl refl refl;
-    }
+pub returns-in-NoWord : goal.returns-in-NoWord
+unfolding is_move is_undo is_check is_open is_puzzle
+returns-in-NoWord g c =
+    let is = c.in-NoWord.is in
+    by_none (request c.args.command) (played c.args.game.now) (ap is_move is) (ap is_undo is) (ap is_check is) (ap is_open is) (ap is_puzzle is)
 
 pub returns-in_default : goal.returns-in_default
 returns-in_default g c =
-    let a = c.args in
-    let verb = a.command.verb in
-    let none = c.in_default.in_default-own.rest in
-    let moves = none.0.0.0.0.0.0.1 in
-    let undoes = none.0.0.0.0.0.1 in
-    record {
-      file = unread;
-      answers = unread;
-      leaves =
-          by_none a.line.now a.command unread unread (session a.board a.journal.now a.checks.now)
-          (not_move verb (λ e. moves (inr (inr (inl e)))) (λ e. moves (inr (inl e))) (λ e. moves (inr (inr (inr e)))) (λ e. moves (inl e)))
-          (not_undo verb (λ e. undoes (inr e)) (λ e. undoes (inl e)))
-          (ne_eqb verb 99 none.0.0.0.0.1)
-          (ne_eqb verb 111 none.0.0.0.1)
-          (ne_eqb verb 122 none.0.0.1);
-    }
+    let none = c.in_default in
+    let v = c.args.command.verb in
+    by_none (request c.args.command) (played c.args.game.now)
+    (no_move v none.not-Place none.not-Mark none.not-Strike none.not-Erase)
+    (no_undo v none.not-Undo none.not-Redo)
+    (no_check_lem v none.not-Check)
+    (no_open v none.not-Open)
+    (no_puzzle v none.not-Puzzle)

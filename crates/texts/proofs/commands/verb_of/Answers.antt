@@ -1,19 +1,21 @@
 -- `texts::commands::verb_of` meets its contract.
 -- Assumes nothing.
-use mathlib.Core.Path.{sym}
-use borrow.Author.Tests.{eq-eqb, ne_eqb}
-use Rattle.sudoku.specs.Tests.{pick}
-use Rattle.texts.specs.Commands.{verb_of}
+use Rattle.std.proofs.Common.{length, sym, ap, ◌∙◌, arith}
+use borrow.Author.Tests.{eq-eqb, ne_eqb, ltb-true, ltb-false}
+use Rattle.sudoku.proofs.Walks.{pick_true, pick_false}
+use Rattle.texts.specs.Commands.{verb_of_play, verb_of_rest, verb_of, verb_of_letter}
+use Rattle.texts.proofs.Names.{either_found}
 use Rattle.texts.proofs.commands.verb_of.Goals as goal
+use Rattle.texts.proofs.commands.verb_of.Goals.{in_default-via-then-name-lt1, in_default-via-else-name-lt1+else-name-lt2}
 
-pub returns-then-name-eq1 : goal.returns-then-name-eq1
-unfolding verb_of pick
-returns-then-name-eq1 c = simp (eq-eqb _ _ c.if-name-eq1.true, c.byte_at.ensures)
+pub returns-in-len1 : goal.returns-in-len1
+unfolding verb_of
+returns-in-len1 c = c.verb_of_letter.ensures ∙ ap verb_of_letter (sym (pick_true _ _ _ (eq-eqb _ _ (omega arith))))
 
-pub returns-then-verb-eq0 : goal.returns-then-verb-eq0
-unfolding verb_of pick
-returns-then-verb-eq0 c = simp (ne_eqb _ _ c.if-name-eq1.false, sym c.verb_of_play-verb.ensures, eq-eqb _ _ c.if-verb-eq0.true, c.verb_of_rest.ensures)
-
-pub returns : goal.returns
-unfolding verb_of pick
-returns c = simp (ne_eqb _ _ c.if-name-eq1.false, sym c.verb_of_play-verb.ensures, ne_eqb _ _ c.if-verb-eq0.false)
+pub returns-in_default : goal.returns-in_default
+unfolding verb_of
+returns-in_default c =
+    let name = c.args.name.now in
+    let long = ne_eqb (length name) 1 (λ e. elim c.in_default.branch [ in_default-via-then-name-lt1 w ↦ absurd (omega (arith, ltb-true)) | in_default-via-else-name-lt1+else-name-lt2 w ↦ absurd (omega (arith, ltb-true, ltb-false)) ]) in
+    rw (c.unwrap_or.ensures, c.or.ensures, c.verb_of_play.ensures, c.verb_of_rest.ensures)
+    (either_found (verb_of_play name) (verb_of_rest name) ∙ ap verb_of_letter (sym (pick_false _ _ _ long)))

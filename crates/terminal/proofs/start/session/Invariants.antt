@@ -1,9 +1,0 @@
--- `terminal::start::session` is safe and ends: the turns are counted down.
--- Assumes nothing.
-use Rattle.terminal.proofs.start.session.Given as goal
-
-abbrev pub invariant-loop-turns : goal.invariant-loop-turns
-invariant-loop-turns l = Unit {0}
-
-abbrev pub decreases-loop-turns : goal.decreases-loop-turns
-decreases-loop-turns l = l.turns

@@ -1,0 +1,87 @@
+// What the console is started with.
+use files::arguments::{argument, count};
+use files::disk::PATH_MAX;
+use std::io::IsTerminal;
+
+// When to colour.
+#[derive(Clone, Copy)]
+pub enum Colour {
+    OnTerminal,
+    Always,
+    Never,
+}
+
+impl Colour {
+    pub fn is_on(self, rt: &HostRuntime) -> bool {
+        match self {
+            Colour::OnTerminal => rt.stdout().is_terminal(),
+            Colour::Always => true,
+            Colour::Never => false,
+        }
+    }
+}
+
+// What a word of the command line is.
+#[derive(Clone, Copy)]
+enum Word {
+    Name,
+    Colour(Colour),
+}
+
+// None where it is nothing that the console knows.
+fn word_of(word: &[u8]) -> Option<Word> {
+    match word {
+        b"--colour" | b"--color" => Some(Word::Colour(Colour::Always)),
+        b"--plain" => Some(Word::Colour(Colour::Never)),
+        [] | [b'-', ..] => None,
+        _ => Some(Word::Name),
+    }
+}
+
+// The command line: which of its words are the names of files, and how to colour.
+#[derive(Clone, Copy)]
+pub struct Arguments {
+    pub file: Option<usize>,
+    pub solution: Option<usize>,
+    pub colour: Colour,
+}
+
+impl Arguments {
+    // With the name of a file at word i; none where there are two already.
+    fn with_name(self, i: usize) -> Option<Arguments> {
+        match self {
+            Arguments { file: None, .. } => Some(Arguments {
+                file: Some(i),
+                ..self
+            }),
+            Arguments { solution: None, .. } => Some(Arguments {
+                solution: Some(i),
+                ..self
+            }),
+            _ => None,
+        }
+    }
+
+    // With word i.
+    fn with_word(self, rt: &HostRuntime, i: usize) -> Option<Arguments> {
+        let mut memory = [0u8; PATH_MAX];
+        let length = argument(rt, i, &mut memory);
+        match word_of(&memory[..length])? {
+            Word::Name => self.with_name(i),
+            Word::Colour(colour) => Some(Arguments { colour, ..self }),
+        }
+    }
+
+    // The whole command line; none where something in it is wrong.
+    pub fn read(rt: &HostRuntime) -> Option<Arguments> {
+        let mut so_far = Arguments {
+            file: None,
+            solution: None,
+            colour: Colour::OnTerminal,
+        };
+        for i in 1..count(rt) {
+            so_far = so_far.with_word(rt, i)?;
+        }
+        Some(so_far)
+    }
+}
