@@ -4,6 +4,7 @@
 use Prim.Native.Nat.{ℕ, suc, ◌+◌, ◌-◌, ◌≤◌, ◌<◌}
 use mathlib.Core.Path.{◌≡◌, refl, sym, ap, subst, ◌∙◌}
 use mathlib.Core.Logic.{⊎_elim}
+use Rattle.std.specs.Prelude.{Option, Some, None, MatchOption}
 use mathlib.Core.Bool.{true, false}
 use mathlib.Core.List.{List, [], ◌∷◌}
 use native.Mathlib.Nat.{eq-or-lt_of_le, add-zero}
@@ -19,15 +20,14 @@ use Rattle.journal.specs.declared.Move.TheVariants.{Place, Erase, WriteMark, Str
 use Rattle.journal.specs.Bytes.{two}
 use Rattle.journal.specs.Slots.{move_of}
 use Rattle.record.specs.declared.Group.{Group}
-use Rattle.record.specs.declared.Group.TheVariants.{Givens, Moves, Count, Checks, Malformed}
+use Rattle.record.specs.declared.Group.TheVariants.{Givens, Moves, Count, Checks}
 use Rattle.record.specs.declared.Item.{Item}
 use Rattle.record.specs.declared.Item.TheVariants.{Given, Played, Undone, Check}
-use Rattle.record.specs.declared.Read.TheVariants.{Whole, Nothing}
 use Rattle.record.specs.declared.Shape.{Shape}
 use Rattle.journal.specs.declared.Asked.{Asked}
 use Rattle.record.specs.Items.{encode, check_item}
 use Rattle.record.specs.Scan.{broken, take_item, by_kind, body2, body3, body5}
-use Rattle.record.specs.Code.Counting.{shape, shape_of, taken, read_of, move_at, asked_from, item_of}
+use Rattle.record.specs.Code.Counting.{shape, shape_of, taken, read, read_of, move_at, asked_from, item_of}
 
 -- ---- cases over the kinds
 
@@ -80,7 +80,7 @@ shape_mark k h u =
     by_test (eqb k 4) (λ t. sym (ap shape_of (eqb-true k 4 t)))
     (λ t. let n = eqb-false k 4 t in sym (ap shape_of {x = k} {y = 5} (omega (arith, n))))
 
-pub shape_past : (k : ℕ) → 6 ≤ k → (k ≡ 6 → ⊥) → (k ≡ 7 → ⊥) → shape Malformed 0 ≡ shape_of k
+pub shape_past : (k : ℕ) → 6 ≤ k → (k ≡ 6 → ⊥) → (k ≡ 7 → ⊥) → None ≡ shape_of k
 unfolding shape_of
 shape_past k h n6 n7 =
     sym
@@ -119,62 +119,58 @@ short5 f (a ∷ b ∷ c ∷ []) h = refl
 short5 f (a ∷ b ∷ c ∷ d ∷ []) h = refl
 short5 f (a ∷ b ∷ c ∷ d ∷ e ∷ l) h = absurd (omega arith)
 
-abbrev Short : ℕ → Type 0
-Short kind = (l : List ℕ) → length l < (shape_of kind).body → take_item kind l ≡ broken
-
-cut_short : (kind : ℕ) → Short kind
-unfolding shape_of take_item by_kind pick
-cut_short =
-    kinds Short (λ l h. short3 _ l h) (λ l h. short3 _ l h) (λ l h. short2 _ l h) (λ l h. short3 _ l h) (λ l h. short3 _ l h)
-    (λ l h. short2 _ l h) (λ l h. short5 _ l h) (λ k o l h. other_kind k _ _ _ _ _ _ _ _ o)
-
 -- ---- a whole item
 
--- one that starts at `at`, behind its kind byte and body, at `next`
-module _ (at next : ℕ) where
-  whole2 : (f : ℕ → ℕ → Item) → ((a b : ℕ) → length (encode (f a b)) ≡ 3) → (l : List ℕ) → next ≡ at + 1 + 2 → 2 ≤ length l
-      → read_of at (body2 f l) ≡ Whole (f (get_or l 0 0) (get_or l 1 0)) next
+-- one that starts at `at`, behind its kind byte and body
+module _ (at : ℕ) where
+  whole2 : (f : ℕ → ℕ → Item) → ((a b : ℕ) → length (encode (f a b)) ≡ 3) → (l : List ℕ) → 2 ≤ length l
+      → read_of at (body2 f l) ≡ Some (read (f (get_or l 0 0) (get_or l 1 0)) (at + 1 + 2))
   unfolding body2 read_of
-  whole2 f n [] e h = absurd (omega arith)
-  whole2 f n (a ∷ []) e h = absurd (omega arith)
-  whole2 f n (a ∷ b ∷ l) e h = ap (Whole (f a b)) {x = at + length (encode (f a b))} {y = next} (omega (arith, n a b))
+  whole2 f n [] h = absurd (omega arith)
+  whole2 f n (a ∷ []) h = absurd (omega arith)
+  whole2 f n (a ∷ b ∷ l) h =
+      ap (λ (k : ℕ). Some (read (f a b) k)) {x = at + length (encode (f a b))} {y = at + 1 + 2} (omega (arith, n a b))
 
-  whole3 : (f : ℕ → ℕ → ℕ → Item) → ((a b c : ℕ) → length (encode (f a b c)) ≡ 4) → (l : List ℕ) → next ≡ at + 1 + 3 → 3 ≤ length l
-      → read_of at (body3 f l) ≡ Whole (f (get_or l 0 0) (get_or l 1 0) (get_or l 2 0)) next
+  whole3 : (f : ℕ → ℕ → ℕ → Item) → ((a b c : ℕ) → length (encode (f a b c)) ≡ 4) → (l : List ℕ) → 3 ≤ length l
+      → read_of at (body3 f l) ≡ Some (read (f (get_or l 0 0) (get_or l 1 0) (get_or l 2 0)) (at + 1 + 3))
   unfolding body3 read_of
-  whole3 f n [] e h = absurd (omega arith)
-  whole3 f n (a ∷ []) e h = absurd (omega arith)
-  whole3 f n (a ∷ b ∷ []) e h = absurd (omega arith)
-  whole3 f n (a ∷ b ∷ c ∷ l) e h = ap (Whole (f a b c)) {x = at + length (encode (f a b c))} {y = next} (omega (arith, n a b c))
+  whole3 f n [] h = absurd (omega arith)
+  whole3 f n (a ∷ []) h = absurd (omega arith)
+  whole3 f n (a ∷ b ∷ []) h = absurd (omega arith)
+  whole3 f n (a ∷ b ∷ c ∷ l) h =
+      ap (λ (k : ℕ). Some (read (f a b c) k)) {x = at + length (encode (f a b c))} {y = at + 1 + 3} (omega (arith, n a b c))
 
-  whole5 : (f : ℕ → ℕ → ℕ → ℕ → ℕ → Item) → ((a b c d e : ℕ) → length (encode (f a b c d e)) ≡ 6) → (l : List ℕ) → next ≡ at + 1 + 5 → 5 ≤ length l
-      → read_of at (body5 f l) ≡ Whole (f (get_or l 0 0) (get_or l 1 0) (get_or l 2 0) (get_or l 3 0) (get_or l 4 0)) next
+  whole5 : (f : ℕ → ℕ → ℕ → ℕ → ℕ → Item) → ((a b c d e : ℕ) → length (encode (f a b c d e)) ≡ 6) → (l : List ℕ) → 5 ≤ length l
+      → read_of at (body5 f l) ≡ Some (read (f (get_or l 0 0) (get_or l 1 0) (get_or l 2 0) (get_or l 3 0) (get_or l 4 0)) (at + 1 + 5))
   unfolding body5 read_of
-  whole5 f n [] e h = absurd (omega arith)
-  whole5 f n (a ∷ []) e h = absurd (omega arith)
-  whole5 f n (a ∷ b ∷ []) e h = absurd (omega arith)
-  whole5 f n (a ∷ b ∷ c ∷ []) e h = absurd (omega arith)
-  whole5 f n (a ∷ b ∷ c ∷ d ∷ []) e h = absurd (omega arith)
-  whole5 f n (a ∷ b ∷ c ∷ d ∷ g ∷ l) e h =
-      ap (Whole (f a b c d g)) {x = at + length (encode (f a b c d g))} {y = next} (omega (arith, n a b c d g))
+  whole5 f n [] h = absurd (omega arith)
+  whole5 f n (a ∷ []) h = absurd (omega arith)
+  whole5 f n (a ∷ b ∷ []) h = absurd (omega arith)
+  whole5 f n (a ∷ b ∷ c ∷ []) h = absurd (omega arith)
+  whole5 f n (a ∷ b ∷ c ∷ d ∷ []) h = absurd (omega arith)
+  whole5 f n (a ∷ b ∷ c ∷ d ∷ g ∷ l) h =
+      ap (λ (k : ℕ). Some (read (f a b c d g) k)) {x = at + length (encode (f a b c d g))} {y = at + 1 + 5} (omega (arith, n a b c d g))
 
-  abbrev IsWhole : ℕ → Type 0
-  IsWhole kind = (l : List ℕ) → next ≡ at + 1 + (shape_of kind).body → (shape_of kind).body ≤ length l
-      → read_of at (take_item kind l) ≡ item_of (kind ∷ l) 0 next (shape_of kind).group
+  -- what a kind byte with the bytes l behind it begins: no item, one that is cut short, or a whole one
+  abbrev Begins : ℕ → List ℕ → Option Shape → Type 0
+  Begins kind l o =
+      MatchOption o (take_item kind l ≡ broken)
+      (λ s.
+      (length l < s.body → take_item kind l ≡ broken)
+      × (s.body ≤ length l → read_of at (take_item kind l) ≡ Some (read (item_of (kind ∷ l) 0 s.group) (at + 1 + s.body))))
 
-  whole : (kind : ℕ) → IsWhole kind
+  begins : (kind : ℕ) (l : List ℕ) → Begins kind l (shape_of kind)
   unfolding shape_of take_item by_kind pick item_of move_at move_of asked_from check_item encode read_of
-  whole =
-      kinds IsWhole (λ l e h. whole3 Given (λ a b c. refl) l e h)
-      (λ l e h. whole3 (λ row column digit. Played (Place row column digit)) (λ a b c. refl) l e h)
-      (λ l e h. whole2 (λ row column. Played (Erase row column)) (λ a b. refl) l e h)
-      (λ l e h. whole3 (λ row column digit. Played (WriteMark row column digit)) (λ a b c. refl) l e h)
-      (λ l e h. whole3 (λ row column digit. Played (StrikeMark row column digit)) (λ a b c. refl) l e h)
-      (λ l e h. whole2 (λ a b. Undone (two a b)) (λ a b. refl) l e h)
-      (λ l e h. whole5 (λ a b row column digit. Check (two a b) row column digit) (λ a b c d g. refl) l e h)
-      (λ k o l e h.
-      ap (read_of at) (other_kind k _ _ _ _ _ _ _ _ o)
-      ∙ ap (λ (s : Shape). item_of (k ∷ l) 0 next s.group) (sym (other_kind k _ _ _ _ _ _ _ _ o)))
+  begins =
+      kinds (λ kind. (l : List ℕ) → Begins kind l (shape_of kind))
+      (λ l. (short3 Given l, whole3 Given (λ a b c. refl) l))
+      (λ l. (short3 _ l, whole3 (λ row column digit. Played (Place row column digit)) (λ a b c. refl) l))
+      (λ l. (short2 _ l, whole2 (λ row column. Played (Erase row column)) (λ a b. refl) l))
+      (λ l. (short3 _ l, whole3 (λ row column digit. Played (WriteMark row column digit)) (λ a b c. refl) l))
+      (λ l. (short3 _ l, whole3 (λ row column digit. Played (StrikeMark row column digit)) (λ a b c. refl) l))
+      (λ l. (short2 _ l, whole2 (λ a b. Undone (two a b)) (λ a b. refl) l))
+      (λ l. (short5 _ l, whole5 (λ a b row column digit. Check (two a b) row column digit) (λ a b c d g. refl) l))
+      (λ k o l. subst (Begins k l) (sym (other_kind k _ _ _ _ _ _ _ _ o)) (other_kind k _ _ _ _ _ _ _ _ o))
 
 -- what stands in the bytes from an offset on
 pub move_shift : (bytes : List ℕ) (at : ℕ) → move_at (drop at bytes) 0 ≡ move_at bytes at
@@ -203,40 +199,46 @@ ask_shift bytes at =
     }
 
 -- the item of a group in the bytes from an offset on
-item_shift : (bytes : List ℕ) (at next : ℕ) (group : Group) → item_of (drop at bytes) 0 next group ≡ item_of bytes at next group
+item_shift : (bytes : List ℕ) (at : ℕ) (group : Group) → item_of (drop at bytes) 0 group ≡ item_of bytes at group
 unfolding item_of move_at
-item_shift bytes at next Givens = λ j. Whole (Given (get_or-drop at bytes 1 0 j) (get_or-drop at bytes 2 0 j) (get_or-drop at bytes 3 0 j)) next
-item_shift bytes at next Moves = ap (λ (m : Move). Whole (Played m) next) (move_shift bytes at)
-item_shift bytes at next Count = λ j. Whole (Undone (two (get_or-drop at bytes 1 0 j) (get_or-drop at bytes 2 0 j))) next
-item_shift bytes at next Checks = ap (λ (c : Asked). Whole (check_item c) next) (ask_shift bytes at)
-item_shift bytes at next Malformed = refl
+item_shift bytes at Givens = λ j. Given (get_or-drop at bytes 1 0 j) (get_or-drop at bytes 2 0 j) (get_or-drop at bytes 3 0 j)
+item_shift bytes at Moves = ap Played (move_shift bytes at)
+item_shift bytes at Count = λ j. Undone (two (get_or-drop at bytes 1 0 j) (get_or-drop at bytes 2 0 j))
+item_shift bytes at Checks = ap check_item (ask_shift bytes at)
 
 -- ---- what stands at an offset
 
-pub read_past : (bytes : List ℕ) (at : ℕ) → length bytes ≤ at → read_of at (taken (drop at bytes)) ≡ Nothing
+pub read_past : (bytes : List ℕ) (at : ℕ) → length bytes ≤ at → read_of at (taken (drop at bytes)) ≡ None
 unfolding taken read_of
 read_past bytes at h = ap (λ (l : List ℕ). read_of at (taken l)) (drop_of_length-le bytes h)
 
-module _ (bytes : List ℕ) (at : ℕ) (inside : at < length bytes) (s : Shape) (e : s ≡ shape_of (get_or bytes at 0)) where
+module _ (bytes : List ℕ) (at : ℕ) (inside : at < length bytes) where
   behind_kind : length (drop (suc at) bytes) ≡ length bytes - suc at
   behind_kind = length-drop (suc at) bytes
 
-  pub read_short : length bytes - at ≤ s.body → read_of at (taken (drop at bytes)) ≡ Nothing
-  unfolding taken read_of
-  read_short h =
-      ap (λ (l : List ℕ). read_of at (taken l)) (drop-cons bytes at 0 inside)
-      ∙ ap (read_of at)
-      (cut_short (get_or bytes at 0) (drop (suc at) bytes) (omega (arith, behind_kind, ap (λ (x : Shape). x.body) e)))
+  begun : (o : Option Shape) → o ≡ shape_of (get_or bytes at 0) → Begins at (get_or bytes at 0) (drop (suc at) bytes) o
+  begun o e = subst (Begins at (get_or bytes at 0) (drop (suc at) bytes)) (sym e) (begins at (get_or bytes at 0) (drop (suc at) bytes))
 
-  pub read_whole : s.body < length bytes - at → item_of bytes at (at + 1 + s.body) s.group ≡ read_of at (taken (drop at bytes))
+  from_kind : read_of at (taken (drop at bytes)) ≡ read_of at (take_item (get_or bytes at 0) (drop (suc at) bytes))
   unfolding taken
-  read_whole h =
-      ap (λ (x : Shape). item_of bytes at (at + 1 + s.body) x.group) e
-      ∙ sym (item_shift bytes at (at + 1 + s.body) (shape_of (get_or bytes at 0)).group)
-      ∙ ap (λ (l : List ℕ). item_of l 0 (at + 1 + s.body) (shape_of (get_or bytes at 0)).group) (drop-cons bytes at 0 inside)
-      ∙ sym (whole at (at + 1 + s.body) (get_or bytes at 0) (drop (suc at) bytes) (ap (λ (x : Shape). at + 1 + x.body) e)
-      (omega (arith, behind_kind, ap (λ (x : Shape). x.body) e)))
-      ∙ ap (λ (l : List ℕ). read_of at (taken l)) (sym (drop-cons bytes at 0 inside))
+  from_kind = ap (λ (l : List ℕ). read_of at (taken l)) (drop-cons bytes at 0 inside)
+
+  pub read_none : None ≡ shape_of (get_or bytes at 0) → read_of at (taken (drop at bytes)) ≡ None
+  unfolding read_of
+  read_none e = from_kind ∙ ap (read_of at) (begun None e)
+
+  module _ (s : Shape) (e : Some s ≡ shape_of (get_or bytes at 0)) where
+    pub read_short : length bytes - at ≤ s.body → read_of at (taken (drop at bytes)) ≡ None
+    unfolding read_of
+    read_short h = from_kind ∙ ap (read_of at) ((begun (Some s) e).0 (omega (arith, behind_kind)))
+
+    pub read_whole : s.body < length bytes - at → Some (read (item_of bytes at s.group) (at + 1 + s.body)) ≡ read_of at (taken (drop at bytes))
+    read_whole h =
+        sym
+        (from_kind
+        ∙ (begun (Some s) e).1 (omega (arith, behind_kind))
+        ∙ ap (λ (i : Item). Some (read i (at + 1 + s.body)))
+        (ap (λ (l : List ℕ). item_of l 0 s.group) (sym (drop-cons bytes at 0 inside)) ∙ item_shift bytes at s.group))
 
 -- reading goes on from the end where an offset lies past it
 module _ (bytes : List ℕ) (start at : ℕ) (short : start ≤ length bytes) (le : start ≤ at) (past : start < at → start ≡ length bytes) where

@@ -8,5 +8,6 @@ pub mod KindBytes
 pub mod Scanning
 pub mod ReadRecord
 pub mod Laying
+pub mod Errors
 pub mod Writing
 pub mod Examples

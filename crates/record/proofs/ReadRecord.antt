@@ -24,7 +24,7 @@ use Rattle.record.specs.declared.Scanned.{Scanned}
 use Rattle.record.specs.Items.{Parts, encode, encode_all, given_item}
 use Rattle.record.specs.Scan.{malformed, parts_of_bytes}
 use Rattle.record.specs.Reopen.{any_late, oversized, miscounted, unreadable}
-use Rattle.record.specs.Code.Counting.{scanned, refused_by, scanned_of, is_oversized, miscounted_by, read_record}
+use Rattle.record.specs.Code.Counting.{counts_of, is_oversized, miscounted_by}
 use Rattle.record.proofs.WriteBack.{IsByte, bytes_record}
 use Rattle.record.proofs.Lengths.{record_joined}
 use Rattle.record.proofs.Readable.{formed}
@@ -48,15 +48,7 @@ givens_read bytes are h =
 
 -- ---- what a scan answers
 
--- the counts of the parts
-abbrev pub counts_of : Parts → Scanned
-counts_of p = scanned accepted (length p.givens) (length p.moves) p.undone (length p.checks) (any_late p.checks)
-
-pub scan_formed : (bytes : List ℕ) → is_accepted (malformed bytes) ≡ true → scanned_of bytes ≡ counts_of (parts_of_bytes bytes)
-unfolding scanned_of
-scan_formed bytes t = pick_true _ (counts_of (parts_of_bytes bytes)) (refused_by (malformed bytes)) t
-
-module _ (bytes solution : List ℕ) (s : Scanned) (e : s ≡ scanned_of bytes) where
+module _ (bytes solution : List ℕ) where
   abbrev parts : Parts
   parts = parts_of_bytes bytes
 
@@ -67,35 +59,17 @@ module _ (bytes solution : List ℕ) (s : Scanned) (e : s ≡ scanned_of bytes) 
   abbrev from20 : Refusal
   from20 = or_else (miscounted parts) (vouch parts.givens solution)
 
-  is_17 : s.refusal ≡ malformed bytes
-  unfolding scanned_of refused_by
-  is_17 =
-      ap (λ (x : Scanned). x.refusal) e
-      ∙ by_test (is_accepted (malformed bytes))
-      (λ t. ap (λ (x : Scanned). x.refusal) (scan_formed bytes t) ∙ sym (formed bytes t))
-      (λ t. ap (λ (x : Scanned). x.refusal) (pick_false _ (counts_of parts) (refused_by (malformed bytes)) t))
-
-  pub refused_17 : (s.refusal.number ≡ 0 → ⊥) → s.refusal ≡ unreadable bytes solution
+  pub refused_17 : (r : Refusal) → r ≡ malformed bytes → (r.number ≡ 0 → ⊥) → r ≡ unreadable bytes solution
   unfolding unreadable
-  refused_17 n = sym (or_else_by (malformed bytes) _ s.refusal (sym is_17) n)
+  refused_17 r e n = sym (or_else_by (malformed bytes) _ r (sym e) n)
 
-  module _ (z : s.refusal.number ≡ 0) where
-    passed_17 : is_accepted (malformed bytes) ≡ true
-    unfolding is_accepted
-    passed_17 = eq-eqb (malformed bytes).number 0 (ap (λ (r : Refusal). r.number) (sym is_17) ∙ z)
-
-    pub is_formed : malformed bytes ≡ accepted
-    is_formed = formed bytes passed_17
-
-    pub counts : s ≡ counts_of parts
-    counts = e ∙ scan_formed bytes passed_17
-
+  module _ (well : accepted ≡ malformed bytes) (s : Scanned) (counts : s ≡ counts_of parts) where
     past_17 : unreadable bytes solution ≡ or_else (oversized parts) from19
     unfolding unreadable
-    past_17 = or_else_past (malformed bytes) _ is_formed
+    past_17 = or_else_past (malformed bytes) _ (sym well)
 
     pub refused_18 : is_oversized s ≡ true → refusal 18 0 0 ≡ unreadable bytes solution
-    unfolding oversized is_oversized
+    unfolding oversized is_oversized counts_of
     refused_18 t =
         sym
         (past_17
@@ -103,11 +77,12 @@ module _ (bytes solution : List ℕ) (s : Scanned) (e : s ≡ scanned_of bytes) 
 
     module _ (small : is_oversized s ≡ false) (are : Each IsByte bytes) where
       past_18 : unreadable bytes solution ≡ from19
-      unfolding oversized is_oversized
+      unfolding oversized is_oversized counts_of
       past_18 = past_17 ∙ or_else_past (oversized parts) from19 (if_not _ (refusal 18 0 0) (sym (ap is_oversized counts) ∙ small))
 
       pub givens_same : givens_in Items bytes s.givens ≡ parts.givens
-      givens_same = ap (λ (x : Scanned). givens_in Items bytes x.givens) counts ∙ givens_read bytes are is_formed
+      unfolding counts_of
+      givens_same = ap (λ (x : Scanned). givens_in Items bytes x.givens) counts ∙ givens_read bytes are (sym well)
 
       pub refused_19 : ascending (givens_in Items bytes s.givens) ≡ false → refusal 19 0 0 ≡ unreadable bytes solution
       refused_19 t =
@@ -125,7 +100,7 @@ module _ (bytes solution : List ℕ) (s : Scanned) (e : s ≡ scanned_of bytes) 
             (if_not _ (refusal 19 0 0) (not_is_false _ (sym (ap ascending givens_same) ∙ rise)))
 
         is_20 : miscounted parts ≡ r
-        unfolding miscounted miscounted_by
+        unfolding miscounted miscounted_by counts_of
         is_20 = sym (w ∙ ap miscounted_by counts)
 
         pub refused_20 : (r.number ≡ 0 → ⊥) → r ≡ unreadable bytes solution
@@ -135,15 +110,3 @@ module _ (bytes solution : List ℕ) (s : Scanned) (e : s ≡ scanned_of bytes) 
         past_21 n =
             ap (λ (gs : List Setters). vouch gs solution) givens_same
             ∙ sym (past_19 ∙ or_else_passed (miscounted parts) (vouch parts.givens solution) (ap (λ (x : Refusal). x.number) is_20 ∙ n))
-
--- ---- the whole
-
-module _ (bytes solution : List ℕ) (r : Refusal) (e : r ≡ unreadable bytes solution) where
-  pub not_read : (r.number ≡ 0 → ⊥) → refused_by r ≡ read_record bytes solution
-  unfolding read_record is_accepted
-  not_read n =
-      sym (pick_false (is_accepted (unreadable bytes solution)) _ _ (ap is_accepted (sym e) ∙ ne_eqb r.number 0 n) ∙ ap refused_by (sym e))
-
-  pub is_read : r.number ≡ 0 → scanned_of bytes ≡ read_record bytes solution
-  unfolding read_record is_accepted
-  is_read n = sym (pick_true (is_accepted (unreadable bytes solution)) _ _ (ap is_accepted (sym e) ∙ eq-eqb r.number 0 n))

@@ -16,21 +16,27 @@ use Rattle.sudoku.specs.Tests.{pick, either}
 use Rattle.sudoku.proofs.Walks.{by_test, pick_true, pick_false, either_first}
 use Rattle.puzzle.specs.declared.Refusal.{Refusal}
 use Rattle.puzzle.specs.Givens.{given}
-use Rattle.puzzle.specs.Refusals.{refusal, accepted, is_accepted}
+use Rattle.puzzle.specs.Refusals.{refusal, accepted}
+use denote.Enum.Bare.{sameb}
+use Rattle.std.specs.Prelude.{Option, Some, None, Err}
+use Rattle.std.specs.Option.{ok_or}
+use Rattle.std.specs.Bool.{then_some}
 use Rattle.journal.specs.declared.Move.TheVariants.{Place, Erase, WriteMark, StrikeMark}
 use Rattle.journal.specs.Limits.{max_moves}
 use Rattle.journal.specs.Bytes.{two}
 use Rattle.journal.specs.declared.Asked.{Asked}
 use Rattle.record.specs.declared.Item.{Item}
 use Rattle.record.specs.declared.Item.TheVariants.{Given, Played, Undone, Check}
+use Rattle.record.specs.contracts.Phase.{the_type}
+use Rattle.record.specs.declared.Phase.{Phase}
+use Rattle.record.specs.declared.Phase.TheVariants.{Givens as AmongGivens, Moves as AmongMoves, Checks as AmongChecks}
 use Rattle.record.specs.declared.Progress.{Progress}
+use Rattle.record.specs.declared.Read.{Read}
 use Rattle.record.specs.declared.Scanned.{Scanned}
-use Rattle.record.specs.declared.Step.{Step}
-use Rattle.record.specs.declared.Step.TheVariants.{Next, Stopped}
 use Rattle.record.specs.Items.{Parts, encode}
 use Rattle.record.specs.Scan.{Taken, got, broken, Items, ended, cut, then, take_item, by_kind, body2, body3, body5, go_on, items_in, items_of_bytes, reached, may_stand, scan, malformed, add, no_parts, parts_in, parts_of_bytes}
 use Rattle.record.specs.Reopen.{any_late}
-use Rattle.record.specs.Code.Counting.{taken, read_of, progress, Room, given_step, move_step, undone_step, check_step, item_step, read_step, step_of, scanned, refused_by, malformed_at, scanned_of}
+use Rattle.record.specs.Code.Counting.{taken, read, read_of, phase_number, progress, Room, given_step, move_step, undone_step, check_step, item_step, scanned, counts_of}
 use Rattle.record.proofs.ReadBack.{encode_some}
 use Rattle.record.proofs.KindBytes.{kinds, other_kind}
 
@@ -111,162 +117,68 @@ items_next kind l =
 unfoldable pub left : List ℕ → ℕ → Items
 left bytes at = items_of_bytes (drop at bytes)
 
--- a step goes on, or the record is malformed at the item
-unfoldable pub from_step : Step → (Progress → Scanned) → ℕ → Scanned
-from_step (Next s) f item = f s
-from_step Stopped f item = malformed_at item
-
--- what the items that are left make of the counts so far
-unfoldable pub scan_from : Progress → Items → Scanned
-scan_from s ended =
-    pick (eqb s.phase 2) (scanned accepted s.givens s.moves s.undone s.checks s.late) (malformed_at s.item)
-scan_from s cut = malformed_at s.item
-scan_from s (then i is) = from_step (item_step s i (s.at + length (encode i))) (λ next. scan_from next is) s.item
-
-from_pick : (t : Bool) (s : Progress) (f g : Progress → Scanned) (item : ℕ) → f s ≡ g s
-    → from_step (pick t (Next s) Stopped) f item ≡ from_step (pick t (Next s) Stopped) g item
-unfolding from_step pick
-from_pick true s f g item e = e
-from_pick false s f g item e = refl
-
--- an item counted: the next one starts where this one ends
-from_item : (s : Progress) (i : Item) (next : ℕ) (f g : Progress → Scanned) (item : ℕ) → ((r : Progress) → r.at ≡ next → f r ≡ g r)
-    → from_step (item_step s i next) f item ≡ from_step (item_step s i next) g item
-unfolding item_step given_step move_step undone_step check_step
-from_item s (Given row column digit) next f g item h = from_pick _ _ f g item (h _ refl)
-from_item s (Played m) next f g item h = from_pick _ _ f g item (h _ refl)
-from_item s (Undone n) next f g item h = from_pick _ _ f g item (h _ refl)
-from_item s (Check standing row column digit) next f g item h = from_pick _ _ f g item (h _ refl)
-
-module _ (bytes : List ℕ) (s : Progress) (inside : s.at < length bytes) where
-  abbrev goes : Step → Scanned
-  goes step = from_step step (λ next. scan_from next (left bytes next.at)) s.item
-
-  turn_by : (kind : ℕ) (l : List ℕ) (t : Taken) → drop s.at bytes ≡ kind ∷ l → Behind l t
-      → scan_from s (go_on t items_of_bytes) ≡ goes (read_step s (read_of s.at t))
-  unfolding go_on scan_from read_step read_of Behind left from_step
-  turn_by kind l (got i rest) e b =
-      from_item s i (s.at + length (encode i)) _ _ s.item
-      (λ r w.
-      ap (λ (m : List ℕ). scan_from r (items_of_bytes m))
-      (sym (ap (λ (n : ℕ). drop n bytes) w ∙ sym (drop-drop (length (encode i)) s.at bytes) ∙ ap (drop (length (encode i))) e ∙ b kind)))
-  turn_by kind l broken e b = refl
-
-  -- a turn of the loop
-  turn : scan_from s (left bytes s.at) ≡ goes (step_of bytes s)
-  unfolding left step_of taken
-  turn =
-      let kind = get_or bytes s.at 0 in
-      let l = drop (suc s.at) bytes in
-      let e : drop s.at bytes ≡ kind ∷ l = drop-cons bytes s.at 0 inside in
-      ap (λ (m : List ℕ). scan_from s (items_of_bytes m)) e
-      ∙ ap (scan_from s) (items_next kind l)
-      ∙ turn_by kind l (take_item kind l) e (leaves kind l)
-      ∙ ap (λ (m : List ℕ). goes (read_step s (read_of s.at (taken m)))) (sym e)
-
-  pub turn_stops : (r : Step) → r ≡ step_of bytes s → r ≡ Stopped → scan_from s (left bytes s.at) ≡ malformed_at s.item
-  unfolding from_step
-  turn_stops r e w = turn ∙ ap goes (sym e ∙ w)
-
-  pub turn_goes_on : (r : Step) (next : Progress) → r ≡ step_of bytes s → r ≡ Next next
-      → scan_from s (left bytes s.at) ≡ scan_from next (left bytes next.at)
-  unfolding from_step
-  turn_goes_on r next e w = turn ∙ ap goes (sym e ∙ w)
-
--- at the end of the bytes
-module _ (bytes : List ℕ) (s : Progress) (past : length bytes ≤ s.at) where
-  none_left : scan_from s (left bytes s.at) ≡ scan_from s ended
-  unfolding left items_of_bytes items_in
-  none_left = ap (λ (m : List ℕ). scan_from s (items_of_bytes m)) (drop_of_length-le bytes past)
-
-  pub ends_early : eqb s.phase 2 ≡ false → scan_from s (left bytes s.at) ≡ malformed_at s.item
-  unfolding scan_from
-  ends_early h = none_left ∙ pick_false _ _ _ h
-
-  pub ends_well : eqb s.phase 2 ≡ true
-      → scan_from s (left bytes s.at) ≡ scanned accepted s.givens s.moves s.undone s.checks s.late
-  unfolding scan_from
-  ends_well h = none_left ∙ pick_true _ _ _ h
-
--- ---- no count overflows
-
--- no count is above the number of bytes read
-pub record Going (s : Progress) : Type 0 where
-  pub item : s.item ≤ s.at + 1
-  pub givens : s.givens ≤ s.at
-  pub moves : s.moves ≤ s.at
-  pub checks : s.checks ≤ s.at
-
-pub going_room : (s : Progress) (n : ℕ) → Going s → s.at < n → n < 2 ^ 63 → Room s
-going_room s n g h u = record { item = omega arith; givens = omega arith; moves = omega arith; checks = omega arith }
-
-unfoldable Onward : Progress → Step → Type 0
-Onward s (Next r) = Going r × (s.at < r.at)
-Onward s Stopped = Unit
-
-onward_pick : (s : Progress) (t : Bool) (r : Progress) → Going r × (s.at < r.at) → Onward s (pick t (Next r) Stopped)
-unfolding Onward pick
-onward_pick s true r h = h
-onward_pick s false r h = tt
-
-onward_item : (s : Progress) (i : Item) → Going s → Onward s (item_step s i (s.at + length (encode i)))
-unfolding item_step given_step move_step undone_step check_step
-onward_item s (Given row column digit) g =
-    let some = encode_some (Given row column digit) in
-    onward_pick s _ _ (record { item = omega arith; givens = omega arith; moves = omega arith; checks = omega arith }, omega arith)
-onward_item s (Played m) g =
-    let some = encode_some (Played m) in
-    onward_pick s _ _ (record { item = omega arith; givens = omega arith; moves = omega arith; checks = omega arith }, omega arith)
-onward_item s (Undone n) g =
-    let some = encode_some (Undone n) in
-    onward_pick s _ _ (record { item = omega arith; givens = omega arith; moves = omega arith; checks = omega arith }, omega arith)
-onward_item s (Check standing row column digit) g =
-    let some = encode_some (Check standing row column digit) in
-    onward_pick s _ _ (record { item = omega arith; givens = omega arith; moves = omega arith; checks = omega arith }, omega arith)
-
-onward_taken : (s : Progress) (t : Taken) → Going s → Onward s (read_step s (read_of s.at t))
-unfolding read_step read_of Onward
-onward_taken s (got i rest) g = onward_item s i g
-onward_taken s broken g = tt
-
-pub goes_on : (bytes : List ℕ) (s : Progress) (r : Step) (next : Progress) → r ≡ step_of bytes s → r ≡ Next next → Going s → Going next × (s.at < next.at)
-unfolding step_of Onward
-goes_on bytes s r next e w g = subst (Onward s) (sym e ∙ w) (onward_taken s (taken (drop s.at bytes)) g)
-
--- ---- what the whole counts
-
--- 17, or the counts
-abbrev total : Refusal → ℕ → ℕ → ℕ → ℕ → Bool → Scanned
-total r givens moves undone checks late = pick (is_accepted r) (scanned accepted givens moves undone checks late) (refused_by r)
-
 -- the counts so far, and those of the items that are left
-abbrev totals : Refusal → Progress → Parts → Scanned
-totals r s p =
-    total r (s.givens + length p.givens) (s.moves + length p.moves) (pick (eqb s.phase 2) s.undone p.undone)
-    (s.checks + length p.checks) (either s.late (any_late p.checks))
+abbrev pub totals : Progress → Parts → Scanned
+totals s p =
+    scanned (s.counts.givens + length p.givens) (s.counts.moves + length p.moves)
+    (pick (eqb (phase_number s.phase) 2) s.counts.undone p.undone)
+    (s.counts.checks + length p.checks)
+    (either s.counts.late (any_late p.checks))
 
--- an item that may stand where the test t holds
-module _ (s : Progress) (i : Item) (is : Items) (t : Bool) (next : Progress)
-    (by : item_step s i (s.at + length (encode i)) ≡ pick t (Next next) Stopped) (may : may_stand s.phase i ≡ t)
-    (rest : scan_from next is ≡ totals (scan next.phase next.item is) next (parts_in is))
-    (same : t ≡ true
-    → totals (scan next.phase next.item is) next (parts_in is) ≡ totals (scan (reached i) (suc s.item) is) s (add i (parts_in is))) where
-  counted_then : scan_from s (then i is) ≡ totals (scan s.phase s.item (then i is)) s (add i (parts_in is))
-  unfolding scan_from from_step scan malformed_at is_accepted pick
-  counted_then =
-      by_test t
-      (λ p.
-      ap (λ (x : Step). from_step x (λ r. scan_from r is) s.item) (by ∙ pick_true t (Next next) Stopped p)
-      ∙ rest
-      ∙ same p
-      ∙ ap (λ (r : Refusal). totals r s (add i (parts_in is)))
-      (sym (pick_true (may_stand s.phase i) (scan (reached i) (suc s.item) is) (refusal 17 s.item 0) (may ∙ p))))
-      (λ p.
-      ap (λ (x : Step). from_step x (λ r. scan_from r is) s.item) (by ∙ pick_false t (Next next) Stopped p)
-      ∙ ap (λ (r : Refusal). totals r s (add i (parts_in is)))
-      (sym (pick_false (may_stand s.phase i) (scan (reached i) (suc s.item) is) (refusal 17 s.item 0) (may ∙ p))))
+-- what a scan comes to, from what was counted so far and the items that are left: a refusal, and the counts
+pub record Comes (s : Progress) (is : Items) (r : Refusal) (c : Scanned) : Type 0 where
+  pub refusal : scan (phase_number s.phase) s.item is ≡ r
+  pub counts : totals s (parts_in is) ≡ c
 
-abbrev asked : ℕ → ℕ → ℕ → ℕ → Asked
+-- ---- an item that stands where it may, or not
+
+-- the code's tests of how far it has come
+pub at_givens : (q : Phase) → sameb the_type q AmongGivens ≡ eqb (phase_number q) 0
+at_givens AmongGivens = refl
+at_givens AmongMoves = refl
+at_givens AmongChecks = refl
+
+pub at_checks : (q : Phase) → sameb the_type q AmongChecks ≡ eqb (phase_number q) 2
+at_checks AmongGivens = refl
+at_checks AmongMoves = refl
+at_checks AmongChecks = refl
+
+pub before_checks : (q : Phase) → not (sameb the_type q AmongChecks) ≡ leb (phase_number q) 1
+before_checks AmongGivens = refl
+before_checks AmongMoves = refl
+before_checks AmongChecks = refl
+
+pub is_after : (q : Phase) → true ≡ not (not (sameb the_type q AmongChecks)) → eqb (phase_number q) 2 ≡ true
+is_after AmongGivens e = absurd cc
+is_after AmongMoves e = absurd cc
+is_after AmongChecks e = refl
+
+pub is_before : (q : Phase) → true ≡ not (sameb the_type q AmongChecks) → eqb (phase_number q) 2 ≡ false
+is_before AmongGivens e = refl
+is_before AmongMoves e = refl
+is_before AmongChecks e = absurd cc
+
+-- where there is nothing, the error is the one that was given
+pub ok_or_none : {T E : Type 0} (o : Option T) (e x : E) → Err x ≡ ok_or o e → (o ≡ None) × (x ≡ e)
+ok_or_none None e x p = (refl, cc)
+ok_or_none (Some y) e x p = absurd cc
+
+pub then_pick : {A : Type 0} (t u : Bool) (x : A) (o : Option A) → o ≡ then_some t x → t ≡ u → o ≡ pick u (Some x) None
+unfolding pick
+then_pick t true x o e q = rw q at e
+then_pick t false x o e q = rw q at e
+
+picked : {A : Type 0} (t : Bool) (x y : A) → pick t (Some x) None ≡ Some y → (t ≡ true) × (x ≡ y)
+unfolding pick
+picked true x y e = (refl, cc)
+picked false x y e = absurd cc
+
+not_picked : {A : Type 0} (t : Bool) (x : A) → pick t (Some x) None ≡ None → t ≡ false
+unfolding pick
+not_picked true x e = absurd cc
+not_picked false x e = refl
+
+asked : ℕ → ℕ → ℕ → ℕ → Asked
 asked standing row column digit = record { standing = standing; row = row; column = column; digit = digit }
 
 either_assoc : (a b c : Bool) → either (either a b) c ≡ either a (either b c)
@@ -275,75 +187,205 @@ either_assoc true b c = refl
 either_assoc false b c = refl
 
 -- before the undone count
-before_count : (s : Progress) → leb s.phase 1 ≡ true → eqb s.phase 2 ≡ false
-before_count s p = let le = leb-true s.phase 1 p in ne_eqb s.phase 2 (λ e. omega arith)
+before_count : (n : ℕ) → leb n 1 ≡ true → eqb n 2 ≡ false
+before_count n p = let le = leb-true n 1 p in ne_eqb n 2 (λ e. omega arith)
 
 one_more : (n : ℕ) {A : Type 0} (x : A) (l : List A) → n + 1 + length l ≡ n + length (x ∷ l)
 one_more n x l = omega arith
 
-counted : (is : Items) (s : Progress) → scan_from s is ≡ totals (scan s.phase s.item is) s (parts_in is)
-unfolding scan_from scan parts_in no_parts add item_step given_step move_step undone_step check_step may_stand reached malformed_at is_accepted any_late pick
-counted ended s =
-    by_test (eqb s.phase 2)
-    (λ p.
-    pick_true _ _ _ p
-    ∙ (λ j. scanned accepted (here s.givens j) (here s.moves j) (sym (pick_true (eqb s.phase 2) s.undone 0 p) j) (here s.checks j) (sym (either_first s.late false refl) j))
-    ∙ ap (λ (r : Refusal). totals r s no_parts) (sym (pick_true (eqb s.phase 2) accepted (refusal 17 s.item 0) p)))
-    (λ p.
-    pick_false _ _ _ p
-    ∙ ap (λ (r : Refusal). totals r s no_parts) (sym (pick_false (eqb s.phase 2) accepted (refusal 17 s.item 0) p)))
-  where
-    here : (n : ℕ) → n ≡ n + 0
-    here n = omega arith
-counted cut s = refl
-counted (then (Given row column digit) is) s =
-    counted_then s (Given row column digit) is (eqb s.phase 0) _ refl refl (counted is _)
-    (λ p.
-    λ j.
-    total (scan (eqb-true s.phase 0 p j) (add-one s.item j) is)
-    (one_more s.givens (given row column digit) (parts_in is).givens j)
-    (s.moves + length (parts_in is).moves)
-    (pick (eqb s.phase 2) s.undone (parts_in is).undone)
-    (s.checks + length (parts_in is).checks)
-    (either s.late (any_late (parts_in is).checks)))
-counted (then (Played m) is) s =
-    counted_then s (Played m) is (leb s.phase 1) _ refl refl (counted is _)
-    (λ p.
-    λ j.
-    total (scan 1 (add-one s.item j) is)
-    (s.givens + length (parts_in is).givens)
-    (one_more s.moves m (parts_in is).moves j)
-    (sym (pick_false (eqb s.phase 2) s.undone (parts_in is).undone (before_count s p)) j)
-    (s.checks + length (parts_in is).checks)
-    (either s.late (any_late (parts_in is).checks)))
-counted (then (Undone n) is) s =
-    counted_then s (Undone n) is (leb s.phase 1) _ refl refl (counted is _)
-    (λ p.
-    λ j.
-    total (scan 2 (add-one s.item j) is)
-    (s.givens + length (parts_in is).givens)
-    (s.moves + length (parts_in is).moves)
-    (sym (pick_false (eqb s.phase 2) s.undone n (before_count s p)) j)
-    (s.checks + length (parts_in is).checks)
-    (either s.late (any_late (parts_in is).checks)))
-counted (then (Check standing row column digit) is) s =
-    counted_then s (Check standing row column digit) is (eqb s.phase 2) _ refl refl (counted is _)
-    (λ p.
-    λ j.
-    total (scan (eqb-true s.phase 2 p j) (add-one s.item j) is)
-    (s.givens + length (parts_in is).givens)
-    (s.moves + length (parts_in is).moves)
-    (pick (eqb s.phase 2) s.undone (parts_in is).undone)
-    (one_more s.checks (asked standing row column digit) (parts_in is).checks j)
-    (either_assoc s.late (not (leb standing max_moves)) (any_late (parts_in is).checks) j))
+module _ (s : Progress) (at : ℕ) (is : Items) (r : Refusal) (c : Scanned) where
+  abbrev phase : ℕ
+  phase = phase_number s.phase
 
--- a scan of all bytes
-pub scan_start : (bytes : List ℕ) → scan_from (progress 0 1 0 0 0 0 0 false) (left bytes 0) ≡ scanned_of bytes
-unfolding left scanned_of malformed parts_of_bytes pick either
-scan_start bytes =
-    counted (items_of_bytes bytes) (progress 0 1 0 0 0 0 0 false)
-    ∙ (λ j.
-    total (malformed bytes) (zero-add (length (parts_of_bytes bytes).givens) j) (zero-add (length (parts_of_bytes bytes).moves) j)
-    (parts_of_bytes bytes).undone
-    (zero-add (length (parts_of_bytes bytes).checks) j)
-    (any_late (parts_of_bytes bytes).checks))
+  abbrev p : Parts
+  p = parts_in is
+
+  -- the items that are left begin with one that may stand there
+  after : (i : Item) → may_stand phase i ≡ true → scan phase s.item (then i is) ≡ r → scan (reached i) (s.item + 1) is ≡ r
+  unfolding scan
+  after i t e = ap (λ (n : ℕ). scan (reached i) n is) (add-one s.item) ∙ sym (pick_true _ _ _ t) ∙ e
+
+  pub steps_on : (i : Item) (next : Progress) → Comes s (then i is) r c → item_step s i at ≡ Some next → Comes next is r c
+  unfolding item_step given_step move_step undone_step check_step may_stand reached parts_in add any_late either pick
+  steps_on (Given row column digit) next h e =
+      let q = picked _ _ next e in
+      subst (λ (n : Progress). Comes n is r c) q.1
+      (record {
+        refusal = (λ j. scan (eqb-true phase 0 q.0 j) (s.item + 1) is) ∙ after (Given row column digit) q.0 h.refusal;
+        counts =
+            (λ j. scanned (one_more s.counts.givens (given row column digit) p.givens j) (s.counts.moves + length p.moves) (pick (eqb phase 2) s.counts.undone p.undone) (s.counts.checks + length p.checks) (either s.counts.late (any_late p.checks)))
+            ∙ h.counts;
+      })
+  steps_on (Played m) next h e =
+      let q = picked _ _ next e in
+      subst (λ (n : Progress). Comes n is r c) q.1
+      (record {
+        refusal = after (Played m) q.0 h.refusal;
+        counts =
+            (λ j. scanned (s.counts.givens + length p.givens) (one_more s.counts.moves m p.moves j) (sym (pick_false (eqb phase 2) s.counts.undone p.undone (before_count phase q.0)) j) (s.counts.checks + length p.checks) (either s.counts.late (any_late p.checks)))
+            ∙ h.counts;
+      })
+  steps_on (Undone n) next h e =
+      let q = picked _ _ next e in
+      subst (λ (n : Progress). Comes n is r c) q.1
+      (record {
+        refusal = after (Undone n) q.0 h.refusal;
+        counts =
+            (λ j. scanned (s.counts.givens + length p.givens) (s.counts.moves + length p.moves) (sym (pick_false (eqb phase 2) s.counts.undone n (before_count phase q.0)) j) (s.counts.checks + length p.checks) (either s.counts.late (any_late p.checks)))
+            ∙ h.counts;
+      })
+  steps_on (Check standing row column digit) next h e =
+      let q = picked _ _ next e in
+      subst (λ (n : Progress). Comes n is r c) q.1
+      (record {
+        refusal = (λ j. scan (eqb-true phase 2 q.0 j) (s.item + 1) is) ∙ after (Check standing row column digit) q.0 h.refusal;
+        counts =
+            (λ j. scanned (s.counts.givens + length p.givens) (s.counts.moves + length p.moves) (pick (eqb phase 2) s.counts.undone p.undone) (one_more s.counts.checks (asked standing row column digit) p.checks j) (either_assoc s.counts.late (not (leb standing max_moves)) (any_late p.checks) j))
+            ∙ h.counts;
+      })
+
+  -- or with one that may not
+  pub stops : (i : Item) → Comes s (then i is) r c → item_step s i at ≡ None → refusal 17 s.item 0 ≡ r
+  unfolding item_step given_step move_step undone_step check_step may_stand scan
+  stops (Given row column digit) h e = sym (pick_false _ _ _ (not_picked _ _ e)) ∙ h.refusal
+  stops (Played m) h e = sym (pick_false _ _ _ (not_picked _ _ e)) ∙ h.refusal
+  stops (Undone n) h e = sym (pick_false _ _ _ (not_picked _ _ e)) ∙ h.refusal
+  stops (Check standing row column digit) h e = sym (pick_false _ _ _ (not_picked _ _ e)) ∙ h.refusal
+
+-- where the item that stands next ends, the next one starts
+from_item : (s next : Progress) (i : Item) (at : ℕ) → item_step s i at ≡ Some next → next.at ≡ at
+unfolding item_step given_step move_step undone_step check_step
+from_item s next (Given row column digit) at e = ap (λ (n : Progress). n.at) (sym (picked _ _ next e).1)
+from_item s next (Played m) at e = ap (λ (n : Progress). n.at) (sym (picked _ _ next e).1)
+from_item s next (Undone n) at e = ap (λ (n : Progress). n.at) (sym (picked _ _ next e).1)
+from_item s next (Check standing row column digit) at e = ap (λ (n : Progress). n.at) (sym (picked _ _ next e).1)
+
+-- ---- a turn of the loop
+
+module _ (bytes : List ℕ) (s : Progress) (inside : s.at < length bytes) (r : Refusal) (c : Scanned) (h : Comes s (left bytes s.at) r c) where
+  -- what is taken from the bytes at the offset
+  abbrev first : Taken
+  first = taken (drop s.at bytes)
+
+  behind : Behind (drop (suc s.at) bytes) first
+  unfolding taken
+  behind = subst (λ (l : List ℕ). Behind (drop (suc s.at) bytes) (taken l)) (sym (drop-cons bytes s.at 0 inside)) (leaves (get_or bytes s.at 0) (drop (suc s.at) bytes))
+
+  opened : left bytes s.at ≡ go_on first items_of_bytes
+  unfolding left taken
+  opened =
+      ap items_of_bytes (drop-cons bytes s.at 0 inside)
+      ∙ items_next (get_or bytes s.at 0) (drop (suc s.at) bytes)
+      ∙ ap (λ (l : List ℕ). go_on (taken l) items_of_bytes) (sym (drop-cons bytes s.at 0 inside))
+
+  -- the item that is read there, and those behind it
+  read_left : (t : Taken) (i : Item) (next : ℕ) → Behind (drop (suc s.at) bytes) t → read_of s.at t ≡ Some (read i next)
+      → (go_on t items_of_bytes ≡ then i (left bytes next)) × (next ≡ s.at + length (encode i))
+  unfolding read_of go_on left Behind
+  read_left (got i rest) j next b e =
+      let q : read i (s.at + length (encode i)) ≡ read j next = cc in
+      let same = ap (λ (x : Read). x.item) q in
+      let ends = ap (λ (x : Read). x.next) q in
+      (
+        (λ k. then (same k) (items_of_bytes (rest_at k)))
+        ∙ ap (λ (n : ℕ). then j (items_of_bytes (drop n bytes))) ends,
+        sym ends ∙ ap (λ (x : Item). s.at + length (encode x)) same,
+      )
+    where
+      rest_at : rest ≡ drop (s.at + length (encode i)) bytes
+      rest_at =
+          sym (b (get_or bytes s.at 0))
+          ∙ ap (drop (length (encode i))) (sym (drop-cons bytes s.at 0 inside))
+          ∙ drop-drop (length (encode i)) s.at bytes
+  read_left broken j next b e = absurd cc
+
+  cut_left : (t : Taken) → read_of s.at t ≡ None → go_on t items_of_bytes ≡ cut
+  unfolding read_of go_on
+  cut_left (got i rest) e = absurd cc
+  cut_left broken e = refl
+
+  pub nothing_read : None ≡ read_of s.at first → refusal 17 s.item 0 ≡ r
+  unfolding scan
+  nothing_read e = sym (ap (scan (phase_number s.phase) s.item) (opened ∙ cut_left first (sym e))) ∙ h.refusal
+
+  module _ (x : Read) (e : Some x ≡ read_of s.at first) where
+    from_here : (left bytes s.at ≡ then x.item (left bytes x.next)) × (x.next ≡ s.at + length (encode x.item))
+    from_here = let q = read_left first x.item x.next behind (sym e) in (opened ∙ q.0, q.1)
+
+    here : Comes s (then x.item (left bytes x.next)) r c
+    here = subst (λ (is : Items). Comes s is r c) from_here.0 h
+
+    pub reads_on : s.at < x.next
+    reads_on = omega (arith, from_here.1, encode_some x.item)
+
+    pub stops_here : None ≡ item_step s x.item x.next → refusal 17 s.item 0 ≡ r
+    stops_here n = stops s x.next (left bytes x.next) r c x.item here (sym n)
+
+    module _ (next : Progress) (n : Some next ≡ item_step s x.item x.next) where
+      pub goes_on : Comes next (left bytes next.at) r c
+      goes_on =
+          subst (λ (k : ℕ). Comes next (left bytes k) r c) (sym (from_item s next x.item x.next (sym n)))
+          (steps_on s x.next (left bytes x.next) r c x.item next here (sym n))
+
+      pub onward : s.at < next.at
+      onward = omega (arith, from_item s next x.item x.next (sym n), reads_on)
+
+-- at the end of the bytes
+module _ (bytes : List ℕ) (s : Progress) (past : length bytes ≤ s.at) (r : Refusal) (c : Scanned) (h : Comes s (left bytes s.at) r c) where
+  none_left : left bytes s.at ≡ ended
+  unfolding left items_of_bytes items_in
+  none_left = ap items_of_bytes (drop_of_length-le bytes past)
+
+  last : Comes s ended r c
+  last = subst (λ (is : Items). Comes s is r c) none_left h
+
+  pub ends_early : eqb (phase_number s.phase) 2 ≡ false → refusal 17 s.item 0 ≡ r
+  unfolding scan
+  ends_early t = sym (pick_false _ _ _ t) ∙ last.refusal
+
+  module _ (t : eqb (phase_number s.phase) 2 ≡ true) where
+    pub ends_well : accepted ≡ r
+    unfolding scan
+    ends_well = sym (pick_true _ _ _ t) ∙ last.refusal
+
+    pub ends_counted : s.counts ≡ c
+    unfolding parts_in no_parts any_late
+    ends_counted =
+        (λ j. scanned (none s.counts.givens j) (none s.counts.moves j) (sym (pick_true (eqb (phase_number s.phase) 2) s.counts.undone 0 t) j) (none s.counts.checks j) (sym (either_first s.counts.late false refl) j))
+        ∙ last.counts
+      where
+        none : (n : ℕ) → n ≡ n + 0
+        none n = omega arith
+
+-- at the beginning
+pub comes_of : (bytes : List ℕ) → Comes (progress AmongGivens 1 0 (scanned 0 0 0 0 false)) (left bytes 0) (malformed bytes) (counts_of (parts_of_bytes bytes))
+unfolding left malformed parts_of_bytes counts_of pick either
+comes_of bytes =
+    let p = parts_of_bytes bytes in
+    record {
+      refusal = refl;
+      counts = λ j. scanned (zero-add (length p.givens) j) (zero-add (length p.moves) j) p.undone (zero-add (length p.checks) j) (any_late p.checks);
+    }
+
+-- ---- no count overflows
+
+-- no count is above the number of bytes read
+pub record Going (s : Progress) : Type 0 where
+  pub item : s.item ≤ s.at + 1
+  pub givens : s.counts.givens ≤ s.at
+  pub moves : s.counts.moves ≤ s.at
+  pub checks : s.counts.checks ≤ s.at
+
+pub going_room : (s : Progress) (n : ℕ) → Going s → s.at < n → n < 2 ^ 63 → Room s
+going_room s n g h u = record { item = omega arith; givens = omega arith; moves = omega arith; checks = omega arith }
+
+pub going_on : (s next : Progress) (i : Item) (at : ℕ) → item_step s i at ≡ Some next → s.at < at → Going s → Going next
+unfolding item_step given_step move_step undone_step check_step
+going_on s next (Given row column digit) at e u g =
+    subst Going (picked _ _ next e).1 (record { item = omega arith; givens = omega arith; moves = omega arith; checks = omega arith })
+going_on s next (Played m) at e u g =
+    subst Going (picked _ _ next e).1 (record { item = omega arith; givens = omega arith; moves = omega arith; checks = omega arith })
+going_on s next (Undone n) at e u g =
+    subst Going (picked _ _ next e).1 (record { item = omega arith; givens = omega arith; moves = omega arith; checks = omega arith })
+going_on s next (Check standing row column digit) at e u g =
+    subst Going (picked _ _ next e).1 (record { item = omega arith; givens = omega arith; moves = omega arith; checks = omega arith })

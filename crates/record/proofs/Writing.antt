@@ -23,26 +23,15 @@ use Rattle.board.specs.Errors.{play_number, play_refusal}
 use Rattle.board.proofs.Told.{has_number}
 use Rattle.play.specs.Play.{unsound_slot, journal_refusal}
 use Rattle.play.specs.declared.sound.Unsound.{Unsound}
-use Rattle.play.specs.declared.sound.Unsound.TheVariants.{Slot, Check}
 use Rattle.play.specs.Unsound.{unsound_refusal}
 use Rattle.play.proofs.Accepted.{lent_refuses, slots_decide}
 use Rattle.record.specs.declared.error.WriteError.{WriteError}
-use Rattle.record.specs.declared.error.WriteError.TheVariants.{Play, Unsound as NotSound, OutputTooShort}
 use Rattle.record.specs.Errors.{write_error_refusal}
+use Rattle.record.proofs.Errors.{unsound_numbered, write_numbered}
 use Rattle.record.specs.Items.{record_of}
 use Rattle.record.specs.Write.{parts_of, unsound_check, unwritable, write_refusal, wrote, wrote_by, write_of}
 
 -- ---- 1, 2 and 14
-
--- each error has a number, and an accepted call's is 0
-has_number_14 : (e : Unsound) → (unsound_refusal e).number ≡ 0 → ⊥
-has_number_14 (Slot index) p = absurd (omega (arith, p))
-has_number_14 (Check index) p = absurd (omega (arith, p))
-
-pub has_number_of : (e : WriteError) → (write_error_refusal e).number ≡ 0 → ⊥
-has_number_of (Play e) p = omega (arith, has_number e, p)
-has_number_of (NotSound e) p = has_number_14 e p
-has_number_of OutputTooShort p = omega (arith, p)
 
 module _ (b : Board) (journal checks : List ℕ) (fits : Bool) (same : fits ≡ both (eqb (length journal) journal_bytes) (eqb (length checks) check_memory)) where
   decided : (r : Refusal) → r ≡ journal_refusal fits b journal → unwritable b journal checks ≡ or_else r (first_refused (unsound_check b.given checks) b.checks 1)
@@ -60,7 +49,7 @@ module _ (b : Board) (journal checks : List ℕ) (fits : Bool) (same : fits ≡ 
     pub slots_told : (e : Unsound) → unsound_refusal e ≡ first_refused (unsound_slot b.given journal) b.made 1 → unsound_refusal e ≡ unwritable b journal checks
     slots_told e p =
         let r = unsound_refusal e in
-        sym (decided r (p ∙ slots_decide fits b journal 0 two refl) ∙ or_else_by r _ r refl (has_number_14 e))
+        sym (decided r (p ∙ slots_decide fits b journal 0 two refl) ∙ or_else_by r _ r refl (unsound_numbered e))
 
     pub checks_told : accepted ≡ first_refused (unsound_slot b.given journal) b.made 1 → first_refused (unsound_check b.given checks) b.checks 1 ≡ unwritable b journal checks
     checks_told p = sym (decided accepted (p ∙ slots_decide fits b journal 0 two refl) ∙ or_else_passed accepted _ refl)
@@ -87,7 +76,7 @@ module _ (b : Board) (journal checks output : List ℕ) where
 
   pub not_kept : (e : WriteError) → write_error_refusal e ≡ unwritable b journal checks → write_error_refusal e ≡ write_refusal b journal checks output
   unfolding write_refusal
-  not_kept e p = sym (or_else_by _ short (write_error_refusal e) (sym p) (has_number_of e))
+  not_kept e p = sym (or_else_by _ short (write_error_refusal e) (sym p) (write_numbered e))
 
   module _ (kept : accepted ≡ unwritable b journal checks) (size : ℕ) (is : size ≡ length (record_of (parts_of b journal checks))) where
     by_length : write_refusal b journal checks output ≡ short
@@ -103,7 +92,7 @@ module _ (b : Board) (journal checks output : List ℕ) where
   pub refused_told : (e : WriteError) → write_error_refusal e ≡ write_refusal b journal checks output
       → wrote (write_error_refusal e) 0 output ≡ write_of b journal checks output
   unfolding write_of
-  refused_told e p = wrote_nothing (write_refusal b journal checks output) _ output (write_error_refusal e) (sym p) (has_number_of e)
+  refused_told e p = wrote_nothing (write_refusal b journal checks output) _ output (write_error_refusal e) (sym p) (write_numbered e)
 
   pub written_told : accepted ≡ write_refusal b journal checks output
       → wrote accepted (length (record_of (parts_of b journal checks))) (over output 0 (record_of (parts_of b journal checks))) ≡ write_of b journal checks output

@@ -54,37 +54,32 @@ pub struct Written {
     pub length: usize,
 }
 
-// The groups of a record's items, in their order; Count is the undone count. No item has the last one's kind.
-#[derive(Clone, Copy)]
+// The groups of a record's items, in their order; Count is the undone count.
+#[derive(Clone, Copy, PartialEq, Eq)]
 pub enum Group {
     Givens,
     Moves,
     Count,
     Checks,
-    Malformed,
 }
 
 // What a kind byte decides: the item's group, and how many bytes of body follow.
-#[derive(Clone, Copy)]
+#[derive(Clone, Copy, PartialEq, Eq)]
 pub struct Shape {
     pub group: Group,
     pub body: usize,
 }
 
-// What stands at an offset: a whole item, and where the next one starts.
+// A whole item, and where the next one starts.
 #[derive(Clone, Copy)]
-pub enum Read {
-    Whole { item: Item, next: usize },
-    Nothing,
+pub struct Read {
+    pub item: Item,
+    pub next: usize,
 }
 
-// How far a scan has come: phase 0 among the givens, 1 among the moves, 2 after the
-// undone count; the next item's number and where it starts; what was counted so far.
-#[derive(Clone, Copy)]
-pub struct Progress {
-    pub phase: u8,
-    pub item: usize,
-    pub at: usize,
+// What a whole record counts.
+#[derive(Clone, Copy, PartialEq, Eq)]
+pub struct Scanned {
     pub givens: usize,
     pub moves: usize,
     pub undone: usize,
@@ -93,20 +88,19 @@ pub struct Progress {
     pub late: bool,
 }
 
-// One item of a scan: it stands where it may, or the record is malformed there.
-#[derive(Clone, Copy)]
-pub enum Step {
-    Next(Progress),
-    Stopped,
+// How far a scan has come: among the givens, among the moves, or after the undone count.
+#[derive(Clone, Copy, PartialEq, Eq)]
+pub enum Phase {
+    Givens,
+    Moves,
+    Checks,
 }
 
-// What a scan of a whole record answers: 17, or the counts; zeros beside a refusal.
+// How far a scan has come, the next item's number and where it starts, and what was counted so far.
 #[derive(Clone, Copy)]
-pub struct Scanned {
-    pub refusal: Refusal,
-    pub givens: usize,
-    pub moves: usize,
-    pub undone: usize,
-    pub checks: usize,
-    pub late: bool,
+pub struct Progress {
+    pub phase: Phase,
+    pub item: usize,
+    pub at: usize,
+    pub counts: Scanned,
 }

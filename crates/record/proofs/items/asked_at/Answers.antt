@@ -13,9 +13,9 @@ pub returns : goal.returns
 unfolding asked_from
 returns c =
     let a = c.args in
-    let within = c.within-start in
-    let behind = same_behind a.bytes.now within.result a.at within.ensures.0 within.ensures.1 within.ensures.2 in
-    let on : within.result + 1 + 1 ≡ within.result + 2 = omega arith in
+    let start = c.min-start.result in
+    let behind = same_behind a.bytes.now start a.at (omega arith) (omega arith) (λ h. omega arith) in
+    let on : start + 1 + 1 ≡ start + 2 = omega arith in
     λ j.
     record {
       standing =

@@ -8,22 +8,18 @@ use Rattle.record.proofs.items.item_at.Goals as goal
 
 pub returns-in-Givens : goal.returns-in-Givens
 unfolding item_of
-returns-in-Givens c = rw (c.whole.ensures, c.given_at.ensures, c.in-Givens.is)
+returns-in-Givens c = rw (c.given_at.ensures, c.in-Givens.is)
 
 pub returns-in-Moves : goal.returns-in-Moves
 unfolding item_of
-returns-in-Moves c = rw (c.whole-in-Moves.ensures, c.move_at.ensures, c.in-Moves.is)
+returns-in-Moves c = rw (c.move_at.ensures, c.in-Moves.is)
 
 pub returns-in-Count : goal.returns-in-Count
 unfolding item_of
 returns-in-Count c =
     let on : c.args.at + 1 + 1 ≡ c.args.at + 2 = omega arith in
-    rw (c.whole-in-Count.ensures, c.two_at.ensures, c.in-Count.is, on)
+    rw (c.two_at.ensures, c.in-Count.is, on)
 
 pub returns-in-Checks : goal.returns-in-Checks
 unfolding item_of
-returns-in-Checks c = rw (c.whole-in-Checks.ensures, c.check_item.ensures, c.asked_at.ensures, c.in-Checks.is)
-
-pub returns-in-Malformed : goal.returns-in-Malformed
-unfolding item_of
-returns-in-Malformed c = rw c.in-Malformed.is
+returns-in-Checks c = rw (c.into.ensures, c.asked_at.ensures, c.in-Checks.is)

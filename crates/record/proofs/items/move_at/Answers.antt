@@ -1,6 +1,7 @@
 -- `record::items::move_at` meets its contract: past the end every byte reads as 0, wherever reading goes on.
 -- Assumes nothing.
 use mathlib.Core.Path.{◌∙◌}
+use native.Mathlib.Omega.{arith}
 use Rattle.journal.specs.Slots.{move_of}
 use Rattle.record.specs.Code.Counting.{move_at}
 use Rattle.record.proofs.KindBytes.{same_here, same_behind}
@@ -10,9 +11,9 @@ pub returns : goal.returns
 unfolding move_at
 returns c =
     let a = c.args in
-    let within = c.within-start in
-    let here = same_here a.bytes.now within.result a.at within.ensures.0 within.ensures.1 within.ensures.2 in
-    let behind = same_behind a.bytes.now within.result a.at within.ensures.0 within.ensures.1 within.ensures.2 in
+    let start = c.min-start.result in
+    let here = same_here a.bytes.now start a.at (omega arith) (omega arith) (λ h. omega arith) in
+    let behind = same_behind a.bytes.now start a.at (omega arith) (omega arith) (λ h. omega arith) in
     c.move_of.ensures
     ∙ (λ j.
     move_of

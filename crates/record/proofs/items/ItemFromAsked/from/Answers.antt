@@ -1,8 +1,8 @@
--- `record::items::check_item` meets its contract.
+-- `record::items::ItemFromAsked::from` meets its contract.
 -- Assumes nothing.
 use mathlib.Core.Path.{refl}
 use Rattle.record.specs.Items.{check_item}
-use Rattle.record.proofs.items.check_item.Goals as goal
+use Rattle.record.proofs.items.ItemFromAsked.from.Goals as goal
 
 pub returns : goal.returns
 unfolding check_item
