@@ -15,7 +15,6 @@ use lib.ListN.{length, drop, get_or, length-drop, drop_of_length-le, get_or-eq_d
 use lib.Seq.{drop-cons, get_or-drop}
 use Rattle.sudoku.specs.Tests.{pick}
 use Rattle.sudoku.proofs.Walks.{by_test, pick_false}
-use Rattle.journal.specs.declared.Move.{Move}
 use Rattle.journal.specs.declared.Move.TheVariants.{Place, Erase, WriteMark, StrikeMark}
 use Rattle.journal.specs.Bytes.{two}
 use Rattle.journal.specs.Slots.{move_of}
@@ -24,7 +23,6 @@ use Rattle.record.specs.declared.Group.TheVariants.{Givens, Moves, Count, Checks
 use Rattle.record.specs.declared.Item.{Item}
 use Rattle.record.specs.declared.Item.TheVariants.{Given, Played, Undone, Check}
 use Rattle.record.specs.declared.Shape.{Shape}
-use Rattle.journal.specs.declared.Asked.{Asked}
 use Rattle.record.specs.Items.{encode, check_item}
 use Rattle.record.specs.Scan.{broken, take_item, by_kind, body2, body3, body5}
 use Rattle.record.specs.Code.Counting.{shape, shape_of, taken, read, read_of, move_at, asked_from, item_of}

@@ -5,15 +5,15 @@ use Prim.Native.Nat.{ℕ}
 use mathlib.Core.Path.{◌≡◌, refl, sym, ap, ◌∙◌}
 use mathlib.Core.Bool.{true, false, not}
 use mathlib.Core.List.{List, [], ◌∷◌, ◌++◌, map}
-use borrow.Author.Tests.{eqb-false, eq-eqb, ne_eqb}
+use borrow.Author.Tests.{eqb-false}
 use lib.ListN.{length}
 use Rattle.sudoku.specs.Tests.{listed}
-use Rattle.sudoku.proofs.Walks.{by_test, not_is_true, not_is_false, pick_true, pick_false}
+use Rattle.sudoku.proofs.Walks.{not_is_true, not_is_false}
 use Rattle.sudoku.proofs.Each.{Each}
 use Rattle.puzzle.specs.declared.Given.{Given as Setters}
 use Rattle.puzzle.specs.declared.Layout.TheVariants.{Items}
 use Rattle.puzzle.specs.declared.Refusal.{Refusal}
-use Rattle.puzzle.specs.Refusals.{refusal, accepted, is_accepted, refused_if, or_else}
+use Rattle.puzzle.specs.Refusals.{refusal, accepted, refused_if, or_else}
 use Rattle.puzzle.specs.Givens.{ascending}
 use Rattle.puzzle.specs.Code.GivenBytes.{givens_at, givens_in}
 use Rattle.puzzle.specs.Vouch.{vouch}
@@ -23,11 +23,10 @@ use Rattle.puzzle.proofs.GivenBytes.{item_next, in_items}
 use Rattle.record.specs.declared.Scanned.{Scanned}
 use Rattle.record.specs.Items.{Parts, encode, encode_all, given_item}
 use Rattle.record.specs.Scan.{malformed, parts_of_bytes}
-use Rattle.record.specs.Reopen.{any_late, oversized, miscounted, unreadable}
+use Rattle.record.specs.Reopen.{oversized, miscounted, unreadable}
 use Rattle.record.specs.Code.Counting.{counts_of, is_oversized, miscounted_by}
 use Rattle.record.proofs.WriteBack.{IsByte, bytes_record}
 use Rattle.record.proofs.Lengths.{record_joined}
-use Rattle.record.proofs.Readable.{formed}
 
 -- ---- the givens of a record, read where its items stand
 

@@ -13,7 +13,7 @@ use lib.Dec.{leb, eqb}
 use lib.ListN.{length, drop, get_or, length-drop, drop_of_length-le}
 use lib.Seq.{drop-cons, drop-drop}
 use Rattle.sudoku.specs.Tests.{pick, either}
-use Rattle.sudoku.proofs.Walks.{by_test, pick_true, pick_false, either_first}
+use Rattle.sudoku.proofs.Walks.{pick_true, pick_false, either_first}
 use Rattle.puzzle.specs.declared.Refusal.{Refusal}
 use Rattle.puzzle.specs.Givens.{given}
 use Rattle.puzzle.specs.Refusals.{refusal, accepted}
@@ -285,10 +285,9 @@ module _ (bytes : List ℕ) (s : Progress) (inside : s.at < length bytes) (r : R
   read_left (got i rest) j next b e =
       let q : read i (s.at + length (encode i)) ≡ read j next = cc in
       let same = ap (λ (x : Read). x.item) q in
-      let ends = ap (λ (x : Read). x.next) q in
-      (
+      let ends = ap (λ (x : Read). x.next) q in (
         (λ k. then (same k) (items_of_bytes (rest_at k)))
-        ∙ ap (λ (n : ℕ). then j (items_of_bytes (drop n bytes))) ends,
+            ∙ ap (λ (n : ℕ). then j (items_of_bytes (drop n bytes))) ends,
         sym ends ∙ ap (λ (x : Item). s.at + length (encode x)) same,
       )
     where

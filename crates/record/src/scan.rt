@@ -1,6 +1,6 @@
 // Reading a record before anything is performed: its items in their order
 // (17), and what its counts, its givens and the solution say (18 to 27).
-ghost use Rattle.std.specs.Prelude.{◌≡◌, IfOk};
+ghost use Rattle.std.specs.Prelude.{◌≡◌, IfOk, IfErr};
 ghost use Rattle.puzzle.specs.Refusals.{told};
 ghost use Rattle.puzzle.specs.Code.Rows.{flat as flat_of};
 ghost use Rattle.record.specs.Errors.{reopen_refusal};
@@ -115,6 +115,7 @@ fn miscounted(s: Scanned) -> Result<(), ReopenError>
 // 19 speaks of all givens of the record, however many they are.
 pub fn read_record(bytes: &[u8], rows: [[u8; 9]; 9]) -> Result<Scanned, Refusal>
     ensures refusal { told (λ r. r) result ≡ unreadable bytes.now (flat_of rows) }
+    ensures numbered { IfErr result (λ r. r.number ≡ 0 → ⊥) }
     ensures counts { IfOk result (λ s. s ≡ counts_of (parts_of_bytes bytes.now)) }
 {
     let s = scan(bytes)?;

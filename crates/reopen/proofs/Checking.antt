@@ -28,7 +28,9 @@ use Rattle.journal.specs.declared.Asked.{Asked}
 use Rattle.record.specs.Code.Counting.{asked_from}
 use Rattle.record.specs.Reopen.{to_play, check_refusal, checks_refusal}
 use Rattle.reopen.specs.Code.Reopening.{asks_at, asked_number}
+use Rattle.journal.specs.Bytes.{over}
 use Rattle.record.proofs.Givens.{count_not}
+use Rattle.record.proofs.Laying.{Laying, laying_end}
 
 -- ---- cells to play
 
@@ -145,6 +147,23 @@ module _ (bytes : List ℕ) (start count k : ℕ) (h : count + 1 ≤ k) where
   pub stored_ends : (solution : List ℕ) → stored_of solution (asks_left bytes start count k) ≡ []
   unfolding stored_all
   stored_ends solution = ap (stored_of solution) asks_none
+
+-- all are tested and stored
+module _ (bytes : List ℕ) (start count k : ℕ) (b : Board) (cells : ℕ) (memory checks : List ℕ) (at : ℕ) (h : count + 1 ≤ k) (c : cells ≡ to_play b)
+    (tested : checks_refusal b cells 1 (asks_left bytes start count 1) ≡ checks_refusal b cells k (asks_left bytes start count k))
+    (stored : Laying memory 0 (stored_of b.solution (asks_left bytes start count 1)) checks at (stored_of b.solution (asks_left bytes start count k))) where
+  pub all_tested : accepted ≡ checks_refusal b (to_play b) 1 (asks_at bytes start count)
+  all_tested =
+      sym
+      (ap (checks_refusal b (to_play b) 1) (asks_all bytes start count)
+      ∙ ap (λ (n : ℕ). checks_refusal b n 1 (asks_left bytes start count 1)) (sym c)
+      ∙ tested
+      ∙ check_ends bytes start count k h b cells)
+
+  pub all_stored : checks ≡ over memory 0 (stored_of b.solution (asks_at bytes start count))
+  all_stored =
+      (laying_end _ _ _ _ _ _ stored (stored_ends bytes start count k h b.solution)).1
+      ∙ ap (λ (l : List Asked). over memory 0 (stored_of b.solution l)) (sym (asks_all bytes start count))
 
 -- ---- boards that have the same givens and the same solution
 

@@ -10,14 +10,15 @@ use borrow.Author.Tests.{eqb-true, eqb-false, eq-eqb, ne_eqb}
 use lib.Dec.{eqb}
 use lib.ListN.{length, replicate, length-replicate}
 use Rattle.sudoku.specs.Tests.{first, pick, both}
-use Rattle.sudoku.proofs.Walks.{by_test, not_both_ways, both_left, both_right, pick_true, pick_false}
+use Rattle.sudoku.proofs.Walks.{both_left, both_right, pick_true, pick_false}
 use Rattle.sudoku.proofs.Each.{Each}
 use Rattle.puzzle.specs.declared.Layout.TheVariants.{Items}
 use Rattle.puzzle.specs.declared.Refusal.{Refusal}
 use Rattle.puzzle.specs.Refusals.{refusal, accepted, is_accepted, refused_if, or_else}
 use Rattle.puzzle.specs.Givens.{is_on}
 use Rattle.puzzle.specs.Code.GivenBytes.{givens_in}
-use Rattle.puzzle.proofs.Accepted.{if_not, or_else_left, or_else_right}
+use Rattle.std.specs.Prelude.{Result, Ok, Err}
+use Rattle.puzzle.proofs.Accepted.{accepts, if_not, or_else_left, or_else_right}
 use Rattle.puzzle.proofs.Refusals.{refused_if_lem, or_else_by, or_else_past}
 use Rattle.journal.specs.Limits.{max_moves, max_checks, journal_bytes, check_memory, check_item_bytes, given_item_bytes}
 use Rattle.journal.specs.Bytes.{over}
@@ -33,26 +34,29 @@ use Rattle.record.specs.declared.Scanned.{Scanned}
 use Rattle.record.specs.Items.{Parts, record_of}
 use Rattle.record.specs.Scan.{malformed, parts_of_bytes}
 use Rattle.record.specs.Reopen.{oversized, unreadable, replay, take_back_all, to_play, checks_refusal, reopened, settled_record, replayed, reopen_of}
-use Rattle.record.specs.Code.Counting.{refused_by, read_record}
+use Rattle.record.specs.Code.Counting.{counts_of as counts_in}
 use Rattle.reopen.specs.Code.Reopening.{moves_at, asks_at, settled_by, reopened_of, Reopens}
 use Rattle.record.proofs.WriteBack.{IsByte, bytes_record, checks_fit}
 use Rattle.record.proofs.Readable.{formed, sized, Sized}
-use Rattle.record.proofs.ReadRecord.{counts_of as counts_in, givens_read, scan_formed}
+use Rattle.record.proofs.ReadRecord.{givens_read}
 use Rattle.reopen.proofs.PartsRead.{givens_fit, moves_stand, asks_stand, checks_fit as asks_fit}
 use Rattle.reopen.proofs.Checking.{stored_of, to_play_same, checks_same}
 
 -- ---- answers
 
-pub reopens_refused : (o : Opened) (a : Answer) (j c : List ℕ) (x : Refusal) → o ≡ turned_away x → a.refusal ≡ x → (x.number ≡ 0 → ⊥) → Reopens o a j c
-unfolding turned_away
-reopens_refused o a j c x e w n =
-    record { refusal = w ∙ sym (ap (λ (y : Opened). y.answer.refusal) e); rest = λ z. absurd (n (sym (ap (λ (r : Refusal). r.number) w) ∙ z)) }
+module _ {E : Type 0} (f : E → Refusal) (o : Opened) (j c : List ℕ) where
+  pub reopens_refused : (r : Result Board E) (e : E) → r ≡ Err e → o ≡ turned_away (f e) → Reopens f o r j c
+  unfolding turned_away
+  reopens_refused r e w q =
+      subst (λ (x : Result Board E). Reopens f o x j c) (sym w)
+      (record { refusal = sym (ap (λ (y : Opened). y.answer.refusal) q); rest = tt })
 
-pub reopens_given : (o : Opened) (a : Answer) (j c : List ℕ) → Gives o a j c → Reopens o a j c
-reopens_given o a j c g = record { refusal = ap (λ (x : Answer). x.refusal) g.answer; rest = λ z. g }
+  pub reopens_given : (b : Board) → Gives o (answer accepted b) j c → Reopens f o (Ok b) j c
+  reopens_given b g = record { refusal = ap (λ (x : Answer). x.refusal) g.answer; rest = g }
 
-pub reopens_same : (o p : Opened) (a : Answer) (j c : List ℕ) → o ≡ p → Reopens p a j c → Reopens o a j c
-reopens_same o p a j c e g = subst (λ (x : Opened). Reopens x a j c) (sym e) g
+pub reopens_same : {E F : Type 0} (f : E → Refusal) (g : F → Refusal) (o p : Opened) (b : Board) (j c : List ℕ) → o ≡ p → Reopens f p (Ok b) j c → Reopens g o (Ok b) j c
+reopens_same f g o p b j c e h =
+    subst (λ (x : Opened). Reopens g x (Ok b) j c) (sym e) (record { refusal = h.refusal; rest = h.rest })
 
 pub no_moves_length : length no_moves ≡ journal_bytes
 unfolding no_moves
@@ -140,113 +144,101 @@ module _ (undone : ℕ) (cs : List Asked) (b : Board) (journal : List ℕ) where
 
 -- ---- 17 to 29
 
-module _ (bytes solution : List ℕ) (s : Scanned) (e : s ≡ read_record bytes solution) where
+pub unread : (bytes solution : List ℕ) (r : Refusal) → r ≡ unreadable bytes solution → (r.number ≡ 0 → ⊥) → reopened_of bytes solution ≡ turned_away r
+unfolding reopened_of is_accepted
+unread bytes solution r e n =
+    pick_false _ _ _ (ap is_accepted (sym e) ∙ ne_eqb r.number 0 n) ∙ ap turned_away (sym e)
+
+module _ (bytes solution : List ℕ) (well : accepted ≡ unreadable bytes solution) (s : Scanned) (counts : s ≡ counts_in (parts_of_bytes bytes)) (are : Each IsByte bytes) where
   abbrev parts : Parts
   parts = parts_of_bytes bytes
 
-  -- a scan of a record that is read answers no refusal
-  read_17 : is_accepted (unreadable bytes solution) ≡ true → is_accepted (malformed bytes) ≡ true
+  is_read : is_accepted (unreadable bytes solution) ≡ true
+  is_read = accepts _ (sym well)
+
+  -- a scan of a record that is read is refused by nothing
+  read_17 : is_accepted (malformed bytes) ≡ true
   unfolding unreadable
-  read_17 t = or_else_left (malformed bytes) _ t
+  read_17 = or_else_left (malformed bytes) _ is_read
 
-  read_counts : is_accepted (unreadable bytes solution) ≡ true → s ≡ counts_in parts
-  unfolding read_record
-  read_counts t = e ∙ pick_true _ _ _ t ∙ scan_formed bytes (read_17 t)
+  form : malformed bytes ≡ accepted
+  form = formed bytes read_17
 
-  pub unread : (s.refusal.number ≡ 0 → ⊥) → reopened_of bytes solution ≡ turned_away s.refusal
-  unfolding reopened_of read_record refused_by
-  unread n =
-      by_test (is_accepted (unreadable bytes solution))
-      (λ t. absurd (n (ap (λ (x : Scanned). x.refusal.number) (read_counts t))))
-      (λ t. pick_false _ _ _ t ∙ ap turned_away (sym (ap (λ (x : Scanned). x.refusal) (e ∙ pick_false _ _ _ t))))
+  within : Sized parts
+  unfolding unreadable
+  within = sized parts (or_else_left (oversized parts) _ (or_else_right (malformed bytes) _ is_read))
 
-  module _ (z : s.refusal.number ≡ 0) (are : Each IsByte bytes) where
-    is_read : is_accepted (unreadable bytes solution) ≡ true
-    unfolding read_record refused_by is_accepted
-    is_read =
-        by_test (is_accepted (unreadable bytes solution)) (λ t. t)
-        (λ t. absurd (not_both_ways _ (eq-eqb _ 0 (sym (ap (λ (x : Scanned). x.refusal.number) (e ∙ pick_false _ _ _ t)) ∙ z)) t))
+  whole : record_of parts ≡ bytes
+  whole = bytes_record bytes are form
 
-    counts : s ≡ counts_in parts
-    counts = read_counts is_read
+  pub few_moves : s.moves ≤ max_moves
+  unfolding counts_in
+  few_moves = omega (arith, ap (λ (x : Scanned). x.moves) counts, within.moves)
 
-    form : malformed bytes ≡ accepted
-    form = formed bytes (read_17 is_read)
+  pub few_checks_lem : s.checks ≤ max_checks
+  unfolding counts_in
+  few_checks_lem = omega (arith, ap (λ (x : Scanned). x.checks) counts, within.checks)
 
-    within : Sized parts
-    unfolding unreadable
-    within = sized parts (or_else_left (oversized parts) _ (or_else_right (malformed bytes) _ is_read))
+  pub givens_inside : given_item_bytes * s.givens ≤ length bytes
+  unfolding counts_in
+  givens_inside = omega (arith, ap (λ (x : Scanned). x.givens) counts, givens_fit parts bytes whole)
 
-    whole : record_of parts ≡ bytes
-    whole = bytes_record bytes are form
+  pub checks_inside : check_item_bytes * s.checks ≤ length bytes
+  unfolding counts_in
+  checks_inside = omega (arith, ap (λ (x : Scanned). x.checks) counts, asks_fit parts bytes whole)
 
-    pub few_moves : s.moves ≤ max_moves
-    few_moves = omega (arith, ap (λ (x : Scanned). x.moves) counts, within.moves)
+  givens_here : givens_in Items bytes s.givens ≡ parts.givens
+  unfolding counts_in
+  givens_here = ap (λ (x : Scanned). givens_in Items bytes x.givens) counts ∙ givens_read bytes are form
 
-    pub few_checks_lem : s.checks ≤ max_checks
-    few_checks_lem = omega (arith, ap (λ (x : Scanned). x.checks) counts, within.checks)
+  moves_here : moves_at bytes (given_item_bytes * s.givens) s.moves ≡ parts.moves
+  unfolding counts_in
+  moves_here = ap (λ (x : Scanned). moves_at bytes (given_item_bytes * x.givens) x.moves) counts ∙ moves_stand parts bytes whole
 
-    pub givens_inside : given_item_bytes * s.givens ≤ length bytes
-    givens_inside = omega (arith, ap (λ (x : Scanned). x.givens) counts, givens_fit parts bytes whole)
+  asks_here : asks_at bytes (length bytes - check_item_bytes * s.checks) s.checks ≡ parts.checks
+  unfolding counts_in
+  asks_here =
+      ap (λ (x : Scanned). asks_at bytes (length bytes - check_item_bytes * x.checks) x.checks) counts
+      ∙ asks_stand parts bytes whole (checks_fit bytes are form)
 
-    pub checks_inside : check_item_bytes * s.checks ≤ length bytes
-    checks_inside = omega (arith, ap (λ (x : Scanned). x.checks) counts, asks_fit parts bytes whole)
+  module _
+      (b : Board)
+      (w : b ≡ fresh (givens_in Items bytes s.givens) solution)
+      (memory : List ℕ)
+      (none : memory ≡ no_moves) where
+    pub none_stand : b.standing ≡ 0
+    unfolding fresh board_of
+    none_stand = ap (λ (x : Board). x.standing) w
 
-    givens_here : givens_in Items bytes s.givens ≡ parts.givens
-    givens_here = ap (λ (x : Scanned). givens_in Items bytes x.givens) counts ∙ givens_read bytes are form
+    abbrev all : Played
+    all = replay (fresh parts.givens solution) no_moves 1 parts.moves
 
-    moves_here : moves_at bytes (given_item_bytes * s.givens) s.moves ≡ parts.moves
-    moves_here = ap (λ (x : Scanned). moves_at bytes (given_item_bytes * x.givens) x.moves) counts ∙ moves_stand parts bytes whole
+    plays : replay b memory 1 (moves_at bytes (given_item_bytes * s.givens) s.moves) ≡ all
+    plays = λ j. replay ((w ∙ (λ i. fresh (givens_here i) solution)) j) (none j) 1 (moves_here j)
 
-    asks_here : asks_at bytes (length bytes - check_item_bytes * s.checks) s.checks ≡ parts.checks
-    asks_here =
-        ap (λ (x : Scanned). asks_at bytes (length bytes - check_item_bytes * x.checks) x.checks) counts
-        ∙ asks_stand parts bytes whole (checks_fit bytes are form)
+    opens : reopened_of bytes solution
+        ≡ pick (is_accepted all.answer.refusal) (settled_record parts all.answer.board all.journal) (turned_away all.answer.refusal)
+    unfolding reopened_of replayed
+    opens = pick_true _ _ _ is_read
 
-    module _
-        (b : Board)
-        (w : b ≡ fresh (givens_in Items bytes s.givens) solution)
-        (memory : List ℕ)
-        (none : memory ≡ no_moves) where
-      pub none_stand : b.standing ≡ 0
-      unfolding fresh board_of
-      none_stand = ap (λ (x : Board). x.standing) w
+    pub unplayed : (r : Refusal) → r ≡ (replay b memory 1 (moves_at bytes (given_item_bytes * s.givens) s.moves)).answer.refusal → (r.number ≡ 0 → ⊥)
+        → reopened_of bytes solution ≡ turned_away r
+    unfolding is_accepted
+    unplayed r p n =
+        let e = p ∙ ap (λ (x : Played). x.answer.refusal) plays in
+        opens ∙ pick_false _ _ _ (ap is_accepted (sym e) ∙ ne_eqb r.number 0 n) ∙ ap turned_away (sym e)
 
-      module _
-          (a : Answer)
-          (out : List ℕ)
-          (p : a ≡ (replay b memory 1 (moves_at bytes (given_item_bytes * s.givens) s.moves)).answer)
-          (q : out ≡ (replay b memory 1 (moves_at bytes (given_item_bytes * s.givens) s.moves)).journal) where
-        abbrev all : Played
-        all = replay (fresh parts.givens solution) no_moves 1 parts.moves
-
-        plays : replay b memory 1 (moves_at bytes (given_item_bytes * s.givens) s.moves) ≡ all
-        plays =
-            λ j. replay ((w ∙ (λ i. fresh (givens_here i) solution)) j) (none j) 1 (moves_here j)
-
-        answers : a ≡ all.answer
-        answers = p ∙ ap (λ (x : Played). x.answer) plays
-
-        opens : reopened_of bytes solution
-            ≡ pick (is_accepted all.answer.refusal) (settled_record parts all.answer.board all.journal) (turned_away all.answer.refusal)
-        unfolding reopened_of replayed
-        opens = pick_true _ _ _ is_read
-
-        pub unplayed : (a.refusal.number ≡ 0 → ⊥) → reopened_of bytes solution ≡ turned_away a.refusal
-        unfolding is_accepted
-        unplayed n =
-            opens
-            ∙ pick_false _ _ _ (ap (λ (x : Answer). is_accepted x.refusal) (sym answers) ∙ ne_eqb a.refusal.number 0 n)
-            ∙ ap (λ (x : Answer). turned_away x.refusal) (sym answers)
-
-        pub plays_on : a.refusal.number ≡ 0
-            → reopened_of bytes solution ≡ settled_by s.undone (asks_at bytes (length bytes - check_item_bytes * s.checks) s.checks) a.board out
-        unfolding is_accepted settled_by settled_record
-        plays_on n =
-            opens
-            ∙ pick_true _ _ _ (ap (λ (x : Answer). is_accepted x.refusal) (sym answers) ∙ eq-eqb a.refusal.number 0 n)
-            ∙ (λ j.
-            settled_by (sym counts j).undone (sym asks_here j) (sym answers j).board (sym (q ∙ ap (λ (x : Played). x.journal) plays) j))
+    pub plays_on : accepted ≡ (replay b memory 1 (moves_at bytes (given_item_bytes * s.givens) s.moves)).answer.refusal
+        → (last : Board) (out : List ℕ)
+        → last ≡ (replay b memory 1 (moves_at bytes (given_item_bytes * s.givens) s.moves)).answer.board
+        → out ≡ (replay b memory 1 (moves_at bytes (given_item_bytes * s.givens) s.moves)).journal
+        → reopened_of bytes solution ≡ settled_by s.undone (asks_at bytes (length bytes - check_item_bytes * s.checks) s.checks) last out
+    unfolding settled_by settled_record counts_in
+    plays_on p last out q r =
+        opens
+        ∙ pick_true _ _ _ (accepts _ (sym (p ∙ ap (λ (x : Played). x.answer.refusal) plays)))
+        ∙ (λ j.
+        settled_by (sym counts j).undone (sym asks_here j) (sym (q ∙ ap (λ (x : Played). x.answer.board) plays) j) (sym (r ∙ ap (λ (x : Played). x.journal) plays) j))
 
 -- ---- what is refused leaves nothing
 
@@ -316,18 +308,16 @@ module _ (bytes solution journal checks : List ℕ) where
     unfolding reopen_of reopened_of
     lent_opens = pick_true (lent_lengths solution journal checks) _ _ l
 
-    module _ (a : Answer) (j c : List ℕ) (g : Reopens (reopened_of bytes solution) a j c) where
-      pub lent_refused : (a.refusal.number ≡ 0 → ⊥) → (b : Board) (j' c' : List ℕ) → b ≡ zero_board → j' ≡ no_moves → c' ≡ no_checks
-          → Gives (reopen_of bytes solution journal checks) (answer a.refusal b) j' c'
-      unfolding turned_away
-      lent_refused n b j' c' p q r =
-          let o = reopened_of bytes solution in
-          let away = lent_opens ∙ reopened_cleared bytes solution (λ z. n (ap (λ (x : Refusal). x.number) g.refusal ∙ z)) in
-          record {
-            answer = (λ i. answer (g.refusal i) (p i)) ∙ sym (ap (λ (x : Opened). x.answer) away);
-            journal = q ∙ sym (ap (λ (x : Opened). x.journal) away);
-            checks = r ∙ sym (ap (λ (x : Opened). x.checks) away);
-          }
+    pub lent_refused : (r : Refusal) → r ≡ (reopened_of bytes solution).answer.refusal → (r.number ≡ 0 → ⊥) → (b : Board) (j c : List ℕ) → b ≡ zero_board → j ≡ no_moves → c ≡ no_checks
+        → Gives (reopen_of bytes solution journal checks) (answer r b) j c
+    unfolding turned_away
+    lent_refused x e n b j c p q r =
+        let away = lent_opens ∙ reopened_cleared bytes solution (λ z. n (ap (λ (y : Refusal). y.number) e ∙ z)) in
+        record {
+          answer = (λ i. answer (e i) (p i)) ∙ sym (ap (λ (y : Opened). y.answer) away);
+          journal = q ∙ sym (ap (λ (y : Opened). y.journal) away);
+          checks = r ∙ sym (ap (λ (y : Opened). y.checks) away);
+        }
 
-      pub lent_given : a.refusal.number ≡ 0 → Gives (reopen_of bytes solution journal checks) a j c
-      lent_given n = subst (λ (o : Opened). Gives o a j c) (sym lent_opens) (g.rest n)
+    pub lent_given : (a : Answer) (j c : List ℕ) → Gives (reopened_of bytes solution) a j c → Gives (reopen_of bytes solution journal checks) a j c
+    lent_given a j c g = subst (λ (o : Opened). Gives o a j c) (sym lent_opens) g

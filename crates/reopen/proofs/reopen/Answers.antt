@@ -12,35 +12,26 @@ returns-then-not-lent_lengths c =
     let a = c.args in
     wrong_lent a.bytes.now a.solution.now a.journal.now a.checks.now _ (sym c.lent_lengths.ensures ∙ c.if-not-lent_lengths.true) c.wrong_length.ensures
 
-pub reopened-answer-requires : goal.reopened-answer-requires
+pub reopened-requires : goal.reopened-requires
 unfolding lent_lengths
-reopened-answer-requires c =
+reopened-requires c =
     let a = c.args in
-    let lengths = c.lent_lengths in
-    (solution_length a.bytes.now a.solution.now a.journal.now a.checks.now (sym lengths.ensures ∙ c.if-not-lent_lengths.false), journal_zero a.bytes.now a.solution.now a.journal.now a.checks.now (sym lengths.ensures ∙ c.if-not-lent_lengths.false) _ _ refl c.clear.ensures, checks_zero a.bytes.now a.solution.now a.journal.now a.checks.now (sym lengths.ensures ∙ c.if-not-lent_lengths.false) _ _ refl c.clear-2.ensures)
+    let lengths = sym c.lent_lengths.ensures ∙ c.if-not-lent_lengths.false in
+    (solution_length a.bytes.now a.solution.now a.journal.now a.checks.now lengths, journal_zero a.bytes.now a.solution.now a.journal.now a.checks.now lengths _ _ refl c.clear.ensures, checks_zero a.bytes.now a.solution.now a.journal.now a.checks.now lengths _ _ refl c.clear-2.ensures)
 
-pub shape_of-journal-then-refused-ne0 : goal.shape_of-journal-then-refused-ne0
-shape_of-journal-then-refused-ne0 c =
-    c.clear-then-refused-ne0.auto.memory ∙ c.reopened-answer.auto.journal ∙ c.clear.auto.memory
-
-pub shape_of-checks-then-refused-ne0 : goal.shape_of-checks-then-refused-ne0
-shape_of-checks-then-refused-ne0 c =
-    c.clear-then-refused-ne0-2.auto.memory ∙ c.reopened-answer.auto.checks ∙ c.clear-2.auto.memory
-
-pub returns-then-refused-ne0 : goal.returns-then-refused-ne0
+pub returns-in-Ok : goal.returns-in-Ok
 unfolding lent_lengths
-returns-then-refused-ne0 c =
+returns-in-Ok c =
     let a = c.args in
-    let lengths = c.lent_lengths in
-    let reopened = c.reopened-answer in
-    let zero_board = c.zero_board in
-    lent_refused a.bytes.now a.solution.now a.journal.now a.checks.now (sym lengths.ensures ∙ c.if-not-lent_lengths.false) reopened.result _ _ reopened.ensures c.if-refused-ne0.true zero_board.result _ _ zero_board.ensures
-    (journal_zero a.bytes.now a.solution.now a.journal.now a.checks.now (sym lengths.ensures ∙ c.if-not-lent_lengths.false) _ _ (reopened.auto.journal ∙ c.clear.auto.memory) c.clear-then-refused-ne0.ensures)
-    (checks_zero a.bytes.now a.solution.now a.journal.now a.checks.now (sym lengths.ensures ∙ c.if-not-lent_lengths.false) _ _ (reopened.auto.checks ∙ c.clear-2.auto.memory) c.clear-then-refused-ne0-2.ensures)
+    let lengths = sym c.lent_lengths.ensures ∙ c.if-not-lent_lengths.false in
+    rw c.accepted.ensures (lent_given a.bytes.now a.solution.now a.journal.now a.checks.now lengths _ _ _ c.in-Ok.ensures.reopens.rest)
 
-pub returns : goal.returns
+pub returns-in-Err : goal.returns-in-Err
 unfolding lent_lengths
-returns c =
+returns-in-Err c =
     let a = c.args in
-    let reopened = c.reopened-answer in
-    lent_given a.bytes.now a.solution.now a.journal.now a.checks.now (sym c.lent_lengths.ensures ∙ c.if-not-lent_lengths.false) reopened.result _ _ reopened.ensures c.if-refused-ne0.false
+    let lengths = sym c.lent_lengths.ensures ∙ c.if-not-lent_lengths.false in
+    let told = c.in-Err.ensures in
+    lent_refused a.bytes.now a.solution.now a.journal.now a.checks.now lengths _ told.reopens.refusal told.numbered _ _ _ c.zero_board.ensures
+    (journal_zero a.bytes.now a.solution.now a.journal.now a.checks.now lengths _ _ (c.reopened.auto.journal ∙ c.clear.auto.memory) c.clear-in-Err.ensures)
+    (checks_zero a.bytes.now a.solution.now a.journal.now a.checks.now lengths _ _ (c.reopened.auto.checks ∙ c.clear-2.auto.memory) c.clear-in-Err-2.ensures)

@@ -1,68 +1,104 @@
 -- `reopen::reopened` meets its contract: not read, a move refused, or what settling answers.
 -- Assumes nothing.
-use mathlib.Core.Path.{◌≡◌, refl, ap, ◌∙◌}
+use mathlib.Core.Path.{◌≡◌, sym, ap, subst, ◌∙◌}
+use Rattle.std.specs.Prelude.{Result, Err}
+use Rattle.puzzle.specs.declared.Refusal.{Refusal}
+use Rattle.board.specs.declared.Board.{Board}
+use Rattle.board.specs.Open.{Opened}
+use Rattle.reopen.specs.Code.Reopening.{reopened_of, Reopens}
 use native.Mathlib.Omega.{arith}
 use lib.ListN.{length}
+use Rattle.std.proofs.lemmas.Result.{err_from_is_err_and}
+use Rattle.puzzle.specs.Refusals.{accepted}
 use Rattle.puzzle.specs.declared.Layout.TheVariants.{Items}
 use Rattle.puzzle.specs.Code.GivenBytes.{givens_in}
-use Rattle.puzzle.proofs.Rows.{laid_out}
 use Rattle.board.specs.Board.{fresh}
-use Rattle.record.specs.Code.Counting.{read_record}
+use Rattle.puzzle.proofs.Rows.{laid_out}
+use Rattle.record.specs.Errors.{reopen_refusal}
+use Rattle.record.specs.Reopen.{unreadable}
+use Rattle.record.proofs.Errors.{reopen_numbered}
 use Rattle.record.proofs.WriteBack.{are_bytes}
 use Rattle.reopen.proofs.Settling.{reopens_refused, reopens_same, no_moves_length, unread, few_moves, few_checks_lem, givens_inside, checks_inside, none_stand, unplayed, plays_on}
 use Rattle.reopen.proofs.reopened.Goals as goal
 
-pub returns-then-unread-ne0 : goal.returns-then-unread-ne0
-returns-then-unread-ne0 c =
-    let asked : c.read_record-s.result ≡ read_record c.args.bytes.now c.args.solution.now = rw (laid_out c.rows_of-rows.result c.args.solution.now c.rows_of-rows.ensures c.requires.0) at c.read_record-s.ensures in
+pub returns-in_err-s-clause-reopens : goal.returns-in_err-s-clause-reopens
+returns-in_err-s-clause-reopens c =
     let a = c.args in
-    let was_read = c.read_record-s in
-    reopens_refused _ _ _ _ was_read.result.refusal (unread a.bytes.now a.solution.now was_read.result asked c.if-unread-ne0.true) refl c.if-unread-ne0.true
+    let laid = laid_out c.rows_of-rows.result a.solution.now c.rows_of-rows.ensures c.requires.0 in
+    let p = err_from_is_err_and c.from_residual.result c.from_residual.ensures.1 in
+    let e = c.in_err-s.field-0.0 in
+    reopens_refused (λ r. r) _ _ _ _ e (rw p.2 at p.1) (unread a.bytes.now a.solution.now e (c.in_err-s.ensures.refusal ∙ ap (unreadable a.bytes.now) laid) c.in_err-s.ensures.numbered)
 
 pub overflow_mul-s : goal.overflow_mul-s
 overflow_mul-s c =
-    let asked : c.read_record-s.result ≡ read_record c.args.bytes.now c.args.solution.now = rw (laid_out c.rows_of-rows.result c.args.solution.now c.rows_of-rows.ensures c.requires.0) at c.read_record-s.ensures in
     let a = c.args in
-    let was_read = c.read_record-s in
-    omega (arith, givens_inside a.bytes.now a.solution.now was_read.result asked c.if-unread-ne0.false (are_bytes a.bytes.now (λ i u. omega (arith, c.shared_slice_known-1.given i))), c.well_formed.0.1)
+    let laid = laid_out c.rows_of-rows.result a.solution.now c.rows_of-rows.ensures c.requires.0 in
+    let was_read = c.in_ok-s.ensures in
+    let well : accepted ≡ unreadable a.bytes.now a.solution.now = was_read.refusal ∙ ap (unreadable a.bytes.now) laid in
+    let are = are_bytes a.bytes.now (λ i u. omega (arith, c.type_inv.bytes i)) in
+    omega (arith, givens_inside a.bytes.now a.solution.now well c.in_ok-s.s was_read.counts are, c.well_formed.0.1)
 
-pub replay-played-requires : goal.replay-played-requires
-replay-played-requires c =
-    let asked : c.read_record-s.result ≡ read_record c.args.bytes.now c.args.solution.now = rw (laid_out c.rows_of-rows.result c.args.solution.now c.rows_of-rows.ensures c.requires.0) at c.read_record-s.ensures in
-    let made : c.fresh-board.result ≡ fresh (givens_in Items c.args.bytes.now c.read_record-s.result.givens) c.args.solution.now = rw (laid_out c.rows_of-rows.result c.args.solution.now c.rows_of-rows.ensures c.requires.0) at c.fresh-board.ensures in
+pub replay-requires : goal.replay-requires
+replay-requires c =
     let a = c.args in
-    let pre = c.requires in
-    let shared_slice_known = c.shared_slice_known-1 in
-    let was_read = c.read_record-s in
-    let fresh = c.fresh-board in
-    (givens_inside a.bytes.now a.solution.now was_read.result asked c.if-unread-ne0.false (are_bytes a.bytes.now (λ i u. omega (arith, shared_slice_known.given i))), few_moves a.bytes.now a.solution.now was_read.result asked c.if-unread-ne0.false (are_bytes a.bytes.now (λ i u. omega (arith, shared_slice_known.given i))), none_stand a.bytes.now a.solution.now was_read.result asked c.if-unread-ne0.false (are_bytes a.bytes.now (λ i u. omega (arith, shared_slice_known.given i))) fresh.result made a.journal.now pre.1, ap length pre.1 ∙ no_moves_length)
+    let laid = laid_out c.rows_of-rows.result a.solution.now c.rows_of-rows.ensures c.requires.0 in
+    let was_read = c.in_ok-s.ensures in
+    let well : accepted ≡ unreadable a.bytes.now a.solution.now = was_read.refusal ∙ ap (unreadable a.bytes.now) laid in
+    let are = are_bytes a.bytes.now (λ i u. omega (arith, c.type_inv.bytes i)) in
+    let made = c.fresh-board.ensures ∙ ap (fresh (givens_in Items a.bytes.now c.in_ok-s.s.givens)) laid in
+    let none = c.requires.1 in (
+      givens_inside a.bytes.now a.solution.now well c.in_ok-s.s was_read.counts are,
+      few_moves a.bytes.now a.solution.now well c.in_ok-s.s was_read.counts are,
+      none_stand a.bytes.now a.solution.now well c.in_ok-s.s was_read.counts are c.fresh-board.result made a.journal.now none,
+      ap length none ∙ no_moves_length,
+    )
 
-pub returns-then-unplayed-ne0 : goal.returns-then-unplayed-ne0
-returns-then-unplayed-ne0 c =
-    let asked : c.read_record-s.result ≡ read_record c.args.bytes.now c.args.solution.now = rw (laid_out c.rows_of-rows.result c.args.solution.now c.rows_of-rows.ensures c.requires.0) at c.read_record-s.ensures in
-    let made : c.fresh-board.result ≡ fresh (givens_in Items c.args.bytes.now c.read_record-s.result.givens) c.args.solution.now = rw (laid_out c.rows_of-rows.result c.args.solution.now c.rows_of-rows.ensures c.requires.0) at c.fresh-board.ensures in
+pub returns-in_err-last-clause-reopens : goal.returns-in_err-last-clause-reopens
+returns-in_err-last-clause-reopens c =
     let a = c.args in
-    let pre = c.requires in
-    let was_read = c.read_record-s in
-    let fresh = c.fresh-board in
-    let replay = c.replay-played in
-    reopens_refused _ _ _ _ replay.result.refusal (unplayed a.bytes.now a.solution.now was_read.result asked c.if-unread-ne0.false (are_bytes a.bytes.now (λ i u. omega (arith, c.shared_slice_known-1.given i))) fresh.result made a.journal.now pre.1 replay.result _ replay.ensures.0 replay.ensures.1 c.if-unplayed-ne0.true) refl c.if-unplayed-ne0.true
+    let laid = laid_out c.rows_of-rows.result a.solution.now c.rows_of-rows.ensures c.requires.0 in
+    let was_read = c.in_ok-s.ensures in
+    let well : accepted ≡ unreadable a.bytes.now a.solution.now = was_read.refusal ∙ ap (unreadable a.bytes.now) laid in
+    let are = are_bytes a.bytes.now (λ i u. omega (arith, c.type_inv.bytes i)) in
+    let made = c.fresh-board.ensures ∙ ap (fresh (givens_in Items a.bytes.now c.in_ok-s.s.givens)) laid in
+    let p = err_from_is_err_and c.from_residual-in_err-last.result c.from_residual-in_err-last.ensures.1 in
+    let e = c.in_err-last.field-0.0 in
+    reopens_refused (λ r. r) _ _ _ _ (reopen_refusal e) (rw p.2 at p.1)
+    (unplayed a.bytes.now a.solution.now well c.in_ok-s.s was_read.counts are c.fresh-board.result made a.journal.now c.requires.1 (reopen_refusal e) c.in_err-last.ensures.refusal (reopen_numbered e))
 
 pub settle-requires : goal.settle-requires
 settle-requires c =
-    let asked : c.read_record-s.result ≡ read_record c.args.bytes.now c.args.solution.now = rw (laid_out c.rows_of-rows.result c.args.solution.now c.rows_of-rows.ensures c.requires.0) at c.read_record-s.ensures in
     let a = c.args in
-    let shared_slice_known = c.shared_slice_known-1 in
-    let was_read = c.read_record-s in
-    (few_checks_lem a.bytes.now a.solution.now was_read.result asked c.if-unread-ne0.false (are_bytes a.bytes.now (λ i u. omega (arith, shared_slice_known.given i))), checks_inside a.bytes.now a.solution.now was_read.result asked c.if-unread-ne0.false (are_bytes a.bytes.now (λ i u. omega (arith, shared_slice_known.given i))), c.requires.2)
+    let laid = laid_out c.rows_of-rows.result a.solution.now c.rows_of-rows.ensures c.requires.0 in
+    let was_read = c.in_ok-s.ensures in
+    let well : accepted ≡ unreadable a.bytes.now a.solution.now = was_read.refusal ∙ ap (unreadable a.bytes.now) laid in
+    let are = are_bytes a.bytes.now (λ i u. omega (arith, c.type_inv.bytes i)) in
+    (few_checks_lem a.bytes.now a.solution.now well c.in_ok-s.s was_read.counts are, checks_inside a.bytes.now a.solution.now well c.in_ok-s.s was_read.counts are, c.requires.2)
 
-pub returns : goal.returns
-returns c =
-    let asked : c.read_record-s.result ≡ read_record c.args.bytes.now c.args.solution.now = rw (laid_out c.rows_of-rows.result c.args.solution.now c.rows_of-rows.ensures c.requires.0) at c.read_record-s.ensures in
-    let made : c.fresh-board.result ≡ fresh (givens_in Items c.args.bytes.now c.read_record-s.result.givens) c.args.solution.now = rw (laid_out c.rows_of-rows.result c.args.solution.now c.rows_of-rows.ensures c.requires.0) at c.fresh-board.ensures in
+-- what settling answers from the board after the last move
+pub returns-in_err-settled-clause-reopens : goal.returns-in_err-settled-clause-reopens
+returns-in_err-settled-clause-reopens c =
     let a = c.args in
-    let pre = c.requires in
-    let was_read = c.read_record-s in
-    let fresh = c.fresh-board in
-    let replay = c.replay-played in
-    reopens_same _ _ _ _ _ (plays_on a.bytes.now a.solution.now was_read.result asked c.if-unread-ne0.false (are_bytes a.bytes.now (λ i u. omega (arith, c.shared_slice_known-1.given i))) fresh.result made a.journal.now pre.1 replay.result _ replay.ensures.0 replay.ensures.1 c.if-unplayed-ne0.false) c.settle.ensures
+    let laid = laid_out c.rows_of-rows.result a.solution.now c.rows_of-rows.ensures c.requires.0 in
+    let was_read = c.in_ok-s.ensures in
+    let well : accepted ≡ unreadable a.bytes.now a.solution.now = was_read.refusal ∙ ap (unreadable a.bytes.now) laid in
+    let are = are_bytes a.bytes.now (λ i u. omega (arith, c.type_inv.bytes i)) in
+    let made = c.fresh-board.ensures ∙ ap (fresh (givens_in Items a.bytes.now c.in_ok-s.s.givens)) laid in
+    let played = c.in_ok-last.ensures in
+    let on = plays_on a.bytes.now a.solution.now well c.in_ok-s.s was_read.counts are c.fresh-board.result made a.journal.now c.requires.1 played.refusal _ _ played.played.0 played.played.1 in
+    let p = err_from_is_err_and c.from_residual-in_err-settled.result c.from_residual-in_err-settled.ensures.1 in
+    let settled : Reopens reopen_refusal _ (Err c.in_err-settled.field-0.0) _ _ = c.in_err-settled.ensures in
+    subst (λ (x : Result Board Refusal). Reopens (λ r. r) (reopened_of a.bytes.now a.solution.now) x c.replay.new.journal c.settle.new.checks) (sym (rw p.2 at p.1))
+    (record { refusal = settled.refusal ∙ sym (ap (λ (x : Opened). x.answer.refusal) on); rest = tt })
+
+pub returns-clause-reopens : goal.returns-clause-reopens
+returns-clause-reopens c =
+    let a = c.args in
+    let laid = laid_out c.rows_of-rows.result a.solution.now c.rows_of-rows.ensures c.requires.0 in
+    let was_read = c.in_ok-s.ensures in
+    let well : accepted ≡ unreadable a.bytes.now a.solution.now = was_read.refusal ∙ ap (unreadable a.bytes.now) laid in
+    let are = are_bytes a.bytes.now (λ i u. omega (arith, c.type_inv.bytes i)) in
+    let made = c.fresh-board.ensures ∙ ap (fresh (givens_in Items a.bytes.now c.in_ok-s.s.givens)) laid in
+    let played = c.in_ok-last.ensures in
+    let on = plays_on a.bytes.now a.solution.now well c.in_ok-s.s was_read.counts are c.fresh-board.result made a.journal.now c.requires.1 played.refusal _ _ played.played.0 played.played.1 in
+    reopens_same reopen_refusal (λ r. r) _ _ _ _ _ on c.in_ok-settled.ensures

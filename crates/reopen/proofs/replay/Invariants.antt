@@ -18,9 +18,5 @@ now_at board digits notes solved counts = whole digits board.given notes board.s
 
 abbrev pub invariant-loop-k : goal.invariant-loop-k
 invariant-loop-k l =
-    (1 ≤ l.k) × (l.k ≤ l.count + 1) × (length l.journal ≡ journal_bytes) × (l.counts.standing < l.k) × (l.at ≤ l.start + move_item_bytes * (l.k - 1))
+    (length l.journal ≡ journal_bytes) × (l.counts.standing < l.k) × (l.at ≤ l.start + move_item_bytes * (l.k - 1))
     × (replay (now_at l.board l.digits l.notes l.solved l.counts) l.journal l.k (moves_at l.bytes l.at (l.count + 1 - l.k)) ≡ replay l.board l.initial.journal 1 (moves_at l.bytes l.start l.count))
-
-abbrev pub decreases-loop-k : goal.decreases-loop-k
-decreases-loop-k l =
-    l.count + 1 - l.k

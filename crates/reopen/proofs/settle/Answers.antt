@@ -3,44 +3,46 @@
 use Prim.Native.Nat.{◌-◌, ◌*◌}
 use mathlib.Core.Path.{refl, sym, ap, ◌∙◌}
 use mathlib.Core.List.{List}
+use Prim.Native.Nat.{ℕ}
 use native.Mathlib.Omega.{arith}
-use borrow.Author.Tests.{eqb-false}
 use lib.ListN.{length}
-use Rattle.puzzle.specs.Refusals.{refusal}
+use Rattle.std.proofs.lemmas.Result.{err_from_is_err_and}
 use Rattle.journal.specs.Bytes.{over}
+use Rattle.journal.specs.Limits.{check_item_bytes}
 use Rattle.board.specs.Board.{state_of, counts_of, board_of}
+use Rattle.record.specs.Errors.{reopen_refusal}
+use Rattle.record.proofs.Errors.{reopen_numbered}
 use Rattle.reopen.specs.Code.Reopening.{asks_at}
 use Rattle.reopen.proofs.Checking.{asks_length, stored_of}
 use Rattle.reopen.proofs.Settling.{reopens_refused, reopens_given, no_checks_length, settled_30, settled_refused, settled_gives}
-use Prim.Native.Nat.{ℕ}
-use Rattle.journal.specs.Limits.{check_item_bytes}
 use Rattle.reopen.proofs.settle.Goals as goal
 
 pub returns-then-is_undone_solved : goal.returns-then-is_undone_solved
 returns-then-is_undone_solved c =
     let a = c.args in
-    reopens_refused _ _ _ _ (refusal 30 0 0) (settled_30 a.undone (asks_at a.bytes.now (length a.bytes.now - check_item_bytes * a.count) a.count) a.board a.journal.now (sym c.is_undone_solved.ensures ∙ c.if-is_undone_solved.true)) c.refusal.ensures (eqb-false 30 0 refl)
+    reopens_refused reopen_refusal _ _ _ _ _ refl (settled_30 a.undone (asks_at a.bytes.now (length a.bytes.now - check_item_bytes * a.count) a.count) a.board a.journal.now (sym c.is_undone_solved.ensures ∙ c.if-is_undone_solved.true))
 
-pub read_checks-r-requires : goal.read_checks-r-requires
-read_checks-r-requires c =
+pub read_checks-requires : goal.read_checks-requires
+read_checks-requires c =
     let pre = c.requires in
     (omega arith, pre.0, ap length pre.2 ∙ no_checks_length)
 
-pub returns-then-r-ne0 : goal.returns-then-r-ne0
-returns-then-r-ne0 c =
+pub returns-in_err-read_checks : goal.returns-in_err-read_checks
+returns-in_err-read_checks c =
     let a = c.args in
-    let take_back_all = c.taken_back-back in
-    let read_checks = c.read_checks-r in
-    reopens_refused _ _ _ _ read_checks.result (settled_refused a.undone (asks_at a.bytes.now (length a.bytes.now - check_item_bytes * a.count) a.count) a.board a.journal.now (sym c.is_undone_solved.ensures ∙ c.if-is_undone_solved.false) take_back_all.result take_back_all.ensures read_checks.result read_checks.ensures.0 c.if-r-ne0.true) refl c.if-r-ne0.true
+    let back = c.taken_back-back in
+    let p = err_from_is_err_and c.from_residual.result c.from_residual.ensures.1 in
+    let e = c.in_err-read_checks.field-0.0 in
+    reopens_refused reopen_refusal _ _ _ _ e (rw p.2 at p.1) (settled_refused a.undone (asks_at a.bytes.now (length a.bytes.now - check_item_bytes * a.count) a.count) a.board a.journal.now (sym c.is_undone_solved.ensures ∙ c.if-is_undone_solved.false) back.result back.ensures (reopen_refusal e) c.in_err-read_checks.ensures.refusal (reopen_numbered e))
 
 pub returns : goal.returns
 unfolding board_of state_of counts_of
 returns c =
     let a = c.args in
-    let take_back_all = c.taken_back-back in
-    let read_checks = c.read_checks-r in
-    let accepted = c.accepted in
-    reopens_given _ _ _ _
-    (settled_gives a.undone (asks_at a.bytes.now (length a.bytes.now - check_item_bytes * a.count) a.count) a.board a.journal.now (sym c.is_undone_solved.ensures ∙ c.if-is_undone_solved.false) take_back_all.result take_back_all.ensures read_checks.result read_checks.ensures.0 c.if-r-ne0.false accepted.result a.count _ accepted.ensures
+    let back = c.taken_back-back in
+    let checked = c.in_ok-read_checks.ensures in
+    let cs = asks_at a.bytes.now (length a.bytes.now - check_item_bytes * a.count) a.count in
+    reopens_given reopen_refusal _ _ _ _
+    (settled_gives a.undone cs a.board a.journal.now (sym c.is_undone_solved.ensures ∙ c.if-is_undone_solved.false) back.result back.ensures _ checked.refusal refl _ a.count _ refl
     (sym (asks_length a.bytes.now (length a.bytes.now - check_item_bytes * a.count) a.count))
-    (read_checks.ensures.1 c.if-r-ne0.false ∙ ap (λ (l : List ℕ). over l 0 (stored_of take_back_all.result.solution (asks_at a.bytes.now (length a.bytes.now - check_item_bytes * a.count) a.count))) c.requires.2))
+    (checked.stored ∙ ap (λ (l : List ℕ). over l 0 (stored_of back.result.solution cs)) c.requires.2))

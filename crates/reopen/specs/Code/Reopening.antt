@@ -1,19 +1,17 @@
--- How the code reopens a record: the moves and the checks where they stand
--- in the bytes, one move performed, and what is left to do after each part.
+-- How the code reopens a record: the moves and the checks where they stand in
+-- the bytes, why one move is refused, and what is left to do after each part.
 -- Assumes nothing.
-use Rattle.std.specs.Prelude.{ℕ, zero, suc, ◌+◌, ◌-◌, ◌*◌, ◌≡◌, not, List, [], ◌∷◌, eqb, length}
+use Rattle.std.specs.Prelude.{ℕ, zero, suc, ◌+◌, ◌-◌, ◌*◌, ◌≡◌, not, List, [], ◌∷◌, Result, IfOk, eqb, length}
 use Rattle.puzzle.specs.Givens.{is_on, is_given}
 use Rattle.sudoku.specs.Tests.{◌⇒◌, first, pick, listed}
 use Rattle.sudoku.specs.Grid.{in_range, on_grid, cell_of}
 use Rattle.puzzle.specs.declared.Refusal.{Refusal}
-use Rattle.puzzle.specs.Refusals.{refusal, accepted, is_accepted}
+use Rattle.puzzle.specs.Refusals.{refusal, accepted, is_accepted, told}
 use Rattle.journal.specs.declared.Move.{Move}
 use Rattle.journal.specs.State.{State}
-use Rattle.board.specs.declared.Answer.{Answer}
 use Rattle.board.specs.declared.Board.{Board}
-use Rattle.board.specs.Board.{state_of}
-use Rattle.board.specs.Open.{Opened, Gives, turned_away}
-use Rattle.play.specs.Play.{Played, played, move_tests, record_move}
+use Rattle.board.specs.Open.{answer, Opened, Gives, turned_away}
+use Rattle.play.specs.Play.{move_tests}
 use Rattle.journal.specs.declared.Asked.{Asked}
 use Rattle.record.specs.declared.Item.TheVariants.{Played as PlayedItem}
 use Rattle.record.specs.Items.{encode}
@@ -36,13 +34,6 @@ next_refusal s k m =
     let n = first (move_tests s m) in
     pick (is_on s.solved) (refusal 28 k 0) (pick (eqb n 0) accepted (refusal 29 k n))
 
--- move k: 28, 29, or performed and recorded
-unfoldable pub performed : Board → List ℕ → ℕ → Move → Played
-performed b journal k m =
-    let n = first (move_tests (state_of b) m) in
-    pick (is_on b.solved) (played (refusal 28 k 0) b journal)
-    (pick (eqb n 0) (record_move b journal m) (played (refusal 29 k n) b journal))
-
 -- 3, 5 or 8 of a check, 0 where none applies
 unfoldable pub asked_number : List ℕ → Asked → ℕ
 asked_number given c =
@@ -62,7 +53,7 @@ reopened_of bytes solution =
     let r = unreadable bytes solution in
     pick (is_accepted r) (replayed (parts_of_bytes bytes) solution) (turned_away r)
 
--- an answer refuses as `o` does, or it is o's answer, and the memory is o's
-pub record Reopens (o : Opened) (a : Answer) (j c : List ℕ) : Type 0 where
-  pub refusal : a.refusal ≡ o.answer.refusal
-  pub rest : a.refusal.number ≡ 0 → Gives o a j c
+-- what is answered refuses as `o` does, or it is o's board, and the memory is o's
+pub record Reopens {E : Type 0} (f : E → Refusal) (o : Opened) (r : Result Board E) (j c : List ℕ) : Type 0 where
+  pub refusal : told f r ≡ o.answer.refusal
+  pub rest : IfOk r (λ b. Gives o (answer accepted b) j c)

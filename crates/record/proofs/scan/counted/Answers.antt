@@ -42,8 +42,8 @@ returns-after-counts c =
     let a = c.args in
     let stands = then_pick _ _ _ _ c.then_some-in-Check.ensures (c.eq-in-Check.ensures ∙ at_checks a.state.phase) in
     let late : c.if-counts.then_some ≡ either a.state.counts.late (not (leb c.in-Check.standing max_moves)) =
-        elim c.if-counts.branch [
-          | then-counts w ↦ w.then_some-is ∙ w.if-counts.true ∙ sym (either_left _ _ w.if-counts.true)
-          | else-counts w ↦ w.then_some-is ∙ above max_moves c.in-Check.standing ∙ sym (either_second _ _ w.if-counts.false)
-        ] in
+    elim c.if-counts.branch [
+      | then-counts w ↦ w.then_some-is ∙ w.if-counts.true ∙ sym (either_left _ _ w.if-counts.true)
+      | else-counts w ↦ w.then_some-is ∙ above max_moves c.in-Check.standing ∙ sym (either_second _ _ w.if-counts.false)
+    ] in
     rw late at stands ∙ ap (λ (i : Item). item_step a.state i a.read.next) (sym c.in-Check.is)
