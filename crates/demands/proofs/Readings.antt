@@ -4,19 +4,19 @@
 -- Assumes nothing.
 use Prim.Native.Nat.{ℕ, zero, suc, ◌+◌, ◌-◌, ◌≤◌, ◌<◌}
 use mathlib.Core.Path.{◌≡◌, refl, sym, ap, ◌∙◌}
-use mathlib.Core.Bool.{true, not}
+use mathlib.Core.Bool.{true, false, not}
 use mathlib.Core.List.{List}
 use native.Mathlib.Numerals.{add-one}
 use native.Mathlib.Omega.{arith}
 use lib.ListN.{length, get_or, take, replicate}
 use lib.Seq.{ext_get_or}
 use lib.Dec.{leb, ltb, eqb}
-use borrow.Author.Tests.{eq-eqb}
+use borrow.Author.Tests.{eq-eqb, ne_eqb, le-leb, lt-leb}
 use Rattle.sudoku.specs.Tests.{pick, both, run, listed}
 use Rattle.sudoku.specs.Grid.{is_cell, at}
 use Rattle.sudoku.proofs.Grid.{is_cell_lem}
 use Rattle.sudoku.proofs.Listed.{length_listed, listed_at}
-use Rattle.sudoku.proofs.Walks.{by_test, pick_true, pick_false, run_last}
+use Rattle.sudoku.proofs.Walks.{by_test, pick_true, pick_false, both_true, both_false_left, both_false_right, run_last}
 use Rattle.puzzle.specs.declared.Refusal.{Refusal}
 use Rattle.puzzle.specs.Refusals.{refusal, accepted, is_accepted}
 use Rattle.puzzle.specs.Givens.{digits_of, is_given}
@@ -27,11 +27,11 @@ use Rattle.journal.specs.Limits.{journal_bytes}
 use Rattle.journal.specs.State.{State, opening, digit_at, perform, perform_again, struck}
 use Rattle.journal.specs.Slots.{slot_for, slot_at, move_of}
 use Rattle.journal.proofs.Moves.{performed_again, move_kept}
+use Rattle.board.specs.declared.Board.{Board}
 use Rattle.board.specs.Board.{state_of, board_of}
 use Rattle.play.specs.Play.{journal_refusal}
 use Rattle.readings.specs.declared.Reading.{Reading}
 use Rattle.readings.specs.Reading.{opening_of, apply_slot, state_after, reading_refusal, reading, no_reading, reading_of}
-use Rattle.readings.proofs.Refused.{none_read, beyond_made, was_made, not_read, is_read}
 use Rattle.calls.specs.Session.{Session}
 use Rattle.demands.specs.Book.{Book, made, perform_all, state_in}
 use Rattle.demands.specs.Demand3.{board_in}
@@ -56,6 +56,27 @@ listed_cells f l e h =
     listed_at f 81 1 i 0 below
     ∙ h (1 + i) (is_cell_lem (1 + i) (omega arith) (omega arith))
     ∙ ap (λ (n : ℕ). get_or l n 0) {x = 1 + i - 1} {y = i} (omega arith))
+
+-- ---- 35, and what a reading is, by the number of its refusal
+
+module _ (k made : ℕ) where
+  none_read : k ≡ 0 → not (both (leb 1 k) (leb k made)) ≡ true
+  none_read p = ap not (both_false_left (leb 1 k) (leb k made) (lt-leb 1 k (omega (arith, p))))
+
+  beyond_made : made < k → not (both (leb 1 k) (leb k made)) ≡ true
+  beyond_made h = ap not (both_false_right (leb 1 k) (leb k made) (lt-leb k made h))
+
+  was_made : (k ≡ 0 → ⊥) → k ≤ made → not (both (leb 1 k) (leb k made)) ≡ false
+  was_made n h = ap not (both_true (leb 1 k) (leb k made) (le-leb 1 k (omega (arith, n))) (le-leb k made h))
+
+module _ (b : Board) (journal : List ℕ) (k : ℕ) where
+  not_read : ((reading_refusal b journal k).number ≡ 0 → ⊥) → no_reading (reading_refusal b journal k) ≡ reading_of b journal k
+  unfolding reading_of is_accepted
+  not_read h = sym (pick_false _ _ _ (ne_eqb (reading_refusal b journal k).number 0 h))
+
+  is_read : (reading_refusal b journal k).number ≡ 0 → reading b journal k ≡ reading_of b journal k
+  unfolding reading_of is_accepted
+  is_read p = sym (pick_true _ _ _ (eq-eqb (reading_refusal b journal k).number 0 p))
 
 -- ---- the givens and empty notes
 
