@@ -6,16 +6,15 @@ use mathlib.Core.Path.{◌≡◌, refl, sym, ◌∙◌}
 use mathlib.Core.Bool.{Bool, true, false}
 use mathlib.Core.List.{List, [], ◌∷◌, ◌++◌}
 use native.Mathlib.Omega.{arith}
-use Rattle.std.specs.Prelude.{Result, Ok, Err}
+use Rattle.std.specs.Prelude.{Result}
 use Rattle.std.specs.Result.{IsErrAnd}
 use Rattle.std.proofs.lemmas.Result.{err_from_is_err_and}
 use Rattle.sudoku.specs.Tests.{Test, first, pick}
-use Rattle.puzzle.specs.Refusals.{refusal, told}
 use Rattle.board.specs.declared.Board.{Board}
 use Rattle.board.specs.declared.error.PlayError.{PlayError}
 use Rattle.board.specs.declared.error.PlayError.TheVariants.{WrongLength, NotABoard, NoSuchCell, Solved, GivenCell, NoPlayersDigit, MarksNotAccepted, DigitOutOfRange, DigitAlreadyStands, MarkAlreadyWritten, MarkNotThere, NothingToUndo, NothingToRedo, JournalFull, ChecksFull}
 use Rattle.board.specs.Board.{lent_tests}
-use Rattle.board.specs.Errors.{play_number, play_refusal, number_told}
+use Rattle.board.specs.Errors.{play_number, number_told}
 
 -- an error's number is none of an accepted call
 pub has_number : (e : PlayError) → 1 ≤ play_number e
@@ -34,11 +33,6 @@ has_number NothingToUndo = omega arith
 has_number NothingToRedo = omega arith
 has_number JournalFull = omega arith
 has_number ChecksFull = omega arith
-
--- as a refusal: it has a number alone, and an accepted call's is 0
-pub told_number : {T : Type 0} (r : Result T PlayError) → told play_refusal r ≡ refusal (number_told r) 0 0
-told_number (Ok x) = refl
-told_number (Err e) = refl
 
 -- no test of the list has the number 0, which says that nothing is refused
 abbrev pub Numbered : List Test → Type 0
@@ -93,13 +87,3 @@ module _ (fits : Bool) (b : Board) (us : List Test) where
   pub lent_ok : 0 ≡ first (lent_tests fits b []) → first (lent_tests fits b us) ≡ first us
   unfolding lent_tests
   lent_ok p = told_ok (lent_tests fits b []) us (omega arith, (omega arith, tt)) p
-
--- of 1 and 2 no other number comes
-pick_within : (t : Bool) (n x : ℕ) → n ≤ 2 → x ≤ 2 → pick t n x ≤ 2
-unfolding pick
-pick_within true n x p q = p
-pick_within false n x p q = q
-
-pub lent_small : (fits : Bool) (b : Board) → first (lent_tests fits b []) ≤ 2
-unfolding lent_tests first
-lent_small fits b = pick_within _ 1 _ (omega arith) (pick_within _ 2 0 (omega arith) (omega arith))

@@ -1,5 +1,5 @@
 // The board value's test, number 2. It runs in every call, so each loop reads its arrays once and has no early exit.
-ghost use Rattle.std.specs.Prelude.{◌≡◌, [], ◌≤◌, eqb};
+ghost use Rattle.std.specs.Prelude.{◌≡◌, [], eqb};
 ghost use Rattle.sudoku.specs.Tests.{pick, both, every, first};
 ghost use Rattle.sudoku.specs.Grid.{in_range};
 ghost use Rattle.note.specs.Note.{is_note};
@@ -73,15 +73,4 @@ pub fn lent(board: Board, fits: bool) -> Result<(), PlayError>
         return Err(PlayError::NotABoard);
     }
     Ok(())
-}
-
-// The number of `lent`. That no other number comes spares callers a fact.
-// until its callers have moved
-pub fn lent_number(board: Board, fits: bool) -> u8
-    ensures { (result ≡ first (lent_tests fits board [])) × (result ≤ 2) }
-{
-    match lent(board, fits) {
-        Ok(()) => 0,
-        Err(e) => e.number(),
-    }
 }

@@ -63,16 +63,28 @@ module _ (a b c d : ℕ) (l : List ℕ) where
   listed_later zero i = refl
   listed_later (suc n) i = λ j. decode_later i j ∷ listed_later n (suc i) j
 
+-- every call is four bytes
+record Four (c : Call) : Type 0 where
+  one : ℕ
+  two : ℕ
+  three : ℕ
+  four : ℕ
+  is : encode c ≡ one ∷ two ∷ three ∷ four ∷ []
+
+four_bytes : (c : Call) → Four c
+unfolding encode
+four_bytes (Make (Place row column digit)) = record { one = call_place; two = row; three = column; four = digit; is = refl }
+four_bytes (Make (Erase row column)) = record { one = call_erase; two = row; three = column; four = 0; is = refl }
+four_bytes (Make (WriteMark row column digit)) = record { one = call_write_mark; two = row; three = column; four = digit; is = refl }
+four_bytes (Make (StrikeMark row column digit)) = record { one = call_strike_mark; two = row; three = column; four = digit; is = refl }
+four_bytes Undo = record { one = call_undo; two = 0; three = 0; four = 0; is = refl }
+four_bytes Redo = record { one = call_redo; two = 0; three = 0; four = 0; is = refl }
+four_bytes (Check row column) = record { one = call_check; two = row; three = column; four = 0; is = refl }
+
 encode_length : (cs : List Call) → length (encoded cs) ≡ call_bytes * length cs
-unfolding encoded encode
+unfolding encoded
 encode_length [] = refl
-encode_length (Make (Place row column digit) ∷ cs) = omega (arith, encode_length cs)
-encode_length (Make (Erase row column) ∷ cs) = omega (arith, encode_length cs)
-encode_length (Make (WriteMark row column digit) ∷ cs) = omega (arith, encode_length cs)
-encode_length (Make (StrikeMark row column digit) ∷ cs) = omega (arith, encode_length cs)
-encode_length (Undo ∷ cs) = omega (arith, encode_length cs)
-encode_length (Redo ∷ cs) = omega (arith, encode_length cs)
-encode_length (Check row column ∷ cs) = omega (arith, encode_length cs)
+encode_length (c ∷ cs) = rw (four_bytes c).is (omega (arith, encode_length cs))
 
 -- the first group is its call, and the others follow
 first_call : (c : Call) (l : List ℕ) → decode_at (encode c ++ l) 0 ≡ Some c
@@ -86,14 +98,7 @@ first_call Redo l = refl
 first_call (Check row column) l = refl
 
 other_calls : (c : Call) (l : List ℕ) (n : ℕ) → listed (decode_at (encode c ++ l)) n 1 ≡ listed (decode_at l) n 0
-unfolding encode
-other_calls (Make (Place row column digit)) l n = listed_later call_place row column digit l n 0
-other_calls (Make (Erase row column)) l n = listed_later call_erase row column 0 l n 0
-other_calls (Make (WriteMark row column digit)) l n = listed_later call_write_mark row column digit l n 0
-other_calls (Make (StrikeMark row column digit)) l n = listed_later call_strike_mark row column digit l n 0
-other_calls Undo l n = listed_later call_undo 0 0 0 l n 0
-other_calls Redo l n = listed_later call_redo 0 0 0 l n 0
-other_calls (Check row column) l n = listed_later call_check row column 0 l n 0
+other_calls c l n = let b = four_bytes c in rw b.is (listed_later b.one b.two b.three b.four l n 0)
 
 all_calls : (cs : List Call) → listed (decode_at (encoded cs)) (length cs) 0 ≡ map Some cs
 unfolding listed encoded

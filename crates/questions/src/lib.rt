@@ -130,6 +130,7 @@ fn cell_answer(board: Board, cell: usize) -> CellAnswer
 
 // The question for one cell: its digit, whether it is a given,
 // whether it conflicts, its kept note and whether that is shown.
+#[tactic(auto, using(crate::proofs::Asked::no_zero), unfolding(crate::specs::Questions::cell_question, sudoku::specs::Tests::pick))]
 pub fn cell(board: Board, row: u8, column: u8) -> CellAnswer
     ensures { result ≡ cell_question board row column }
 {
