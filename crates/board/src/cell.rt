@@ -10,7 +10,7 @@ use puzzle::holds_digit;
 
 // Whether the cell holds a digit that the player put there: a digit in a cell that is no given.
 #[tactic(auto, unfolding(sudoku::specs::Tests::both))]
-pub fn holds_players_digit<'a>(digits: &'a [u8; 81], given: &'a [u8; 81], cell: usize) -> bool
+pub fn holds_players_digit(digits: &[u8; 81], given: &[u8; 81], cell: usize) -> bool
     ensures { result ≡ both (holds_digit digits.now cell) (not (is_given given.now cell)) }
 {
     holds_digit(digits, cell) && !is_given(given, cell)
