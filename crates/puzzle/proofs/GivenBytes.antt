@@ -52,21 +52,19 @@ module _ (f : ℕ → Given) where
       ap (or_else (match_at solution i))
       (ap (givens_match solution (listed f n (suc i))) {x = suc (i + 1)} {y = suc i + 1} (omega arith) ∙ matches_walk solution n (suc i))
 
-  abbrev pub put_at : List ℕ → ℕ → List ℕ
-  put_at digits k = put digits (cell_of (f k).row (f k).column) (f k).digit
+  -- a value of the given with index k, laid at its cell
+  abbrev pub lay_at : (Given → ℕ) → List ℕ → ℕ → List ℕ
+  lay_at value cells k = put cells (cell_of (f k).row (f k).column) (value (f k))
 
-  pub put_walk : (digits : List ℕ) (n i : ℕ) → put_givens digits (listed f n i) ≡ run put_at digits n i
+  pub put_walk : (digits : List ℕ) (n i : ℕ) → run (lay_at (λ (g : Given). g.digit)) digits n i ≡ put_givens digits (listed f n i)
   unfolding put_givens listed run
   put_walk digits zero i = refl
-  put_walk digits (suc n) i = put_walk (put_at digits i) n (suc i)
+  put_walk digits (suc n) i = put_walk (lay_at (λ (g : Given). g.digit) digits i) n (suc i)
 
-  abbrev pub mark_at : List ℕ → ℕ → List ℕ
-  mark_at flags k = put flags (cell_of (f k).row (f k).column) 1
-
-  pub mark_walk : (flags : List ℕ) (n i : ℕ) → mark_givens flags (listed f n i) ≡ run mark_at flags n i
+  pub mark_walk : (flags : List ℕ) (n i : ℕ) → run (lay_at (λ (g : Given). 1)) flags n i ≡ mark_givens flags (listed f n i)
   unfolding mark_givens listed run
   mark_walk flags zero i = refl
-  mark_walk flags (suc n) i = mark_walk (mark_at flags i) n (suc i)
+  mark_walk flags (suc n) i = mark_walk (lay_at (λ (g : Given). 1) flags i) n (suc i)
 
 pub length_givens : (layout : Layout) (bytes : List ℕ) (n : ℕ) → length (givens_in layout bytes n) ≡ n
 unfolding givens_in

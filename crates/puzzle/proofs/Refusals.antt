@@ -7,10 +7,17 @@ use mathlib.Core.Path.{◌≡◌, sym, ap, ◌∙◌}
 use mathlib.Core.Bool.{Bool, true}
 use native.Mathlib.Nat.{sub-eq-zero_of_le}
 use native.Mathlib.Numerals.{add-one}
+use native.Mathlib.Omega.{arith}
 use borrow.Author.Tests.{eq-eqb, ne_eqb}
+use Rattle.std.specs.Prelude.{Result}
+use Rattle.std.specs.Result.{IsErrAnd}
+use Rattle.std.proofs.lemmas.Result.{err_from_is_err_and}
 use Rattle.sudoku.proofs.Walks.{pick_true, left_one}
 use Rattle.puzzle.specs.declared.Refusal.{Refusal}
-use Rattle.puzzle.specs.Refusals.{accepted, is_accepted, refused_if, or_else, first_refused}
+use Rattle.puzzle.specs.declared.error.WellPosedError.{WellPosedError}
+use Rattle.puzzle.specs.declared.error.WellPosedError.TheVariants.{NotAscending, NothingLeftToPlay, SolutionNotFull, SolutionDigitOutOfRange, SolutionConflict, GivenOffGrid, GivenMismatch}
+use Rattle.puzzle.specs.Errors.{well_posed_refusal}
+use Rattle.puzzle.specs.Refusals.{accepted, told, is_accepted, refused_if, or_else, first_refused}
 use Rattle.puzzle.proofs.Accepted.{or_else_first, or_else_next}
 
 -- refused where the test holds
@@ -53,3 +60,24 @@ module _ (f : ℕ → Refusal) (e i : ℕ) where
   pub walk_all : e ≤ i → first_refused f (e - i) i ≡ accepted
   unfolding first_refused
   walk_all h = ap (λ (n : ℕ). first_refused f n i) (sub-eq-zero_of_le h)
+
+-- ---- what tests answer
+
+-- an error is told as a refusal
+pub refuses : (e : WellPosedError) → (well_posed_refusal e).number ≡ 0 → ⊥
+refuses NotAscending h = omega (arith, h)
+refuses NothingLeftToPlay h = omega (arith, h)
+refuses (SolutionNotFull cell) h = omega (arith, h)
+refuses (SolutionDigitOutOfRange cell) h = omega (arith, h)
+refuses (SolutionConflict cell peer) h = omega (arith, h)
+refuses (GivenOffGrid index) h = omega (arith, h)
+refuses (GivenMismatch index) h = omega (arith, h)
+
+-- what leaves by a `?` is the error of the call
+pub told_by : {T : Type 0} (outcome : Result T WellPosedError) (e : WellPosedError) (r : Refusal)
+    → IsErrAnd outcome (λ x. x ≡ e) → well_posed_refusal e ≡ r → told well_posed_refusal outcome ≡ r
+told_by outcome e r p q = let x = err_from_is_err_and outcome p in rw (x.1, x.2) q
+
+-- the first refuses by an error
+pub or_else_error : (a b : Refusal) (e : WellPosedError) → well_posed_refusal e ≡ a → well_posed_refusal e ≡ or_else a b
+or_else_error a b e h = sym (or_else_by a b (well_posed_refusal e) (sym h) (refuses e))

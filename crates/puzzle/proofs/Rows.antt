@@ -19,6 +19,11 @@ pub flat_cell : (rows : List (List ℕ)) (cell : ℕ) → cell ≤ 81 → at (fl
 unfolding at flat entry_at
 flat_cell rows cell h = listed_from (entry_at rows) 81 (cell - 1) 0 (omega arith)
 
+-- the same by the index of the cell
+pub flat_at : (rows : List (List ℕ)) (i : ℕ) → i < 81 → at (flat rows) (i + 1) ≡ get_or (get_or rows (i / 9) []) (i % 9) 0
+flat_at rows i h =
+    flat_cell rows (i + 1) (omega arith) ∙ ap (λ (k : ℕ). get_or (get_or rows (k / 9) []) (k % 9) 0) {x = i + 1 - 1} {y = i} (omega arith)
+
 -- the digit at a position
 module _ (rows : List (List ℕ)) (row column : ℕ) (p : on_grid row column ≡ true) where
   row_index : (cell_of row column - 1) / 9 ≡ row - 1

@@ -1,12 +1,14 @@
 // Givens (sudoku.rs of the original): read from bytes in either layout, their order, and the digits of a fresh board.
-ghost use Rattle.std.specs.Prelude.{◌≡◌, ◌≤◌, ◌+◌, length};
+ghost use Rattle.std.specs.Prelude.{◌≡◌, ℕ, ◌≤◌, ◌+◌, length};
+ghost use Rattle.puzzle.specs.declared.Given.{Given};
 ghost use Rattle.puzzle.specs.Givens.{precedes as precedes_to, ascending, digits_of, given_cells};
-ghost use Rattle.puzzle.specs.Code.GivenBytes.{given_from, given_in, givens_in};
+ghost use Rattle.puzzle.specs.Code.GivenBytes.{given_from, given_in, givens_in, laid_by};
 
 use crate::{Given, Layout, byte_at, index_of};
 use sudoku::cell_of;
 
 // The given whose three bytes start at an index; bytes past the end read as 0.
+#[tactic(auto, unfolding(crate::specs::Code::GivenBytes::given_from))]
 fn given_from(bytes: &[u8], start: usize) -> Given
     requires { start ≤ length bytes.now + 1 }
     ensures { result ≡ given_from bytes.now start }
@@ -18,86 +20,112 @@ fn given_from(bytes: &[u8], start: usize) -> Given
     }
 }
 
-// The given with index i, counted from 0. The tests keep the index of its first byte from overflowing.
-pub fn given_at(bytes: &[u8], layout: Layout, i: usize) -> Given
-    ensures { result ≡ given_in layout bytes.now i }
-{
-    match layout {
-        Layout::Triples => {
-            if i > bytes.len() / 3 {
-                return given_from(bytes, bytes.len());
-            }
-            given_from(bytes, 3 * i)
-        }
-        Layout::Items => {
-            if i > bytes.len() / 4 {
-                return given_from(bytes, bytes.len());
-            }
-            given_from(bytes, 4 * i + 1)
-        }
-    }
-}
-
 // Whether g stands strictly before h in the order of row, column, digit.
+#[tactic(auto, unfolding(crate::specs::Givens::precedes, sudoku::specs::Tests::both, sudoku::specs::Tests::either))]
 pub fn precedes(g: Given, h: Given) -> bool
     ensures { result ≡ precedes_to g h }
 {
-    if g.row < h.row {
-        return true;
-    }
-    if g.row != h.row {
-        return false;
-    }
-    if g.column < h.column {
-        return true;
-    }
-    if g.column != h.column {
-        return false;
-    }
-    g.digit < h.digit
+    g < h
 }
 
-// Whether the givens ascend strictly.
+// Givens as they stand in some bytes: in which layout, and how many.
+#[derive(Clone, Copy)]
+pub struct GivenBytes<'a> {
+    pub bytes: &'a [u8],
+    pub layout: Layout,
+    pub count: usize,
+}
+
+impl<'a> GivenBytes<'a> {
+    // The given with index i, counted from 0. The tests keep the index of its first byte from overflowing.
+    pub fn given(self, i: usize) -> Given
+        ensures { result ≡ given_in self.entry.layout self.entry.bytes.now i }
+    {
+        let bytes = self.bytes;
+        match self.layout {
+            Layout::Triples => {
+                if i > bytes.len() / 3 {
+                    return given_from(bytes, bytes.len());
+                }
+                given_from(bytes, 3 * i)
+            }
+            Layout::Items => {
+                if i > bytes.len() / 4 {
+                    return given_from(bytes, bytes.len());
+                }
+                given_from(bytes, 4 * i + 1)
+            }
+        }
+    }
+
+    // Whether the givens ascend strictly.
+    pub fn is_ascending(self) -> bool
+        ensures { result ≡ ascending (givens_in self.entry.layout self.entry.bytes.now self.entry.count) }
+    {
+        (1..self.count).all(|i| precedes(self.given(i - 1), self.given(i)))
+    }
+
+    // The 81 cells with an entry of each given laid at its cell, in order, over zeros.
+    // What is off the grid counts as cell 1; no such given comes this far.
+    fn laid<F: Fn(Given) -> u8>(self, entry: F) -> [u8; 81]
+        requires { F.IsAlwaysCallable entry }
+        ensures { (value : Given → ℕ) → ((g : Given) (x : ℕ) → F.post entry g x → x ≡ value g)
+            → result ≡ laid_by value self.entry.layout self.entry.bytes.now self.entry.count }
+    {
+        let mut cells = [0u8; 81];
+        for i in 0..self.count {
+            let given = self.given(i);
+            cells[index_of(cell_of(given.row, given.column))] = entry(given);
+        }
+        cells
+    }
+
+    // The digits of a fresh board: each given's digit at its cell, 0 elsewhere.
+    pub fn digits(self) -> [u8; 81]
+        ensures { result ≡ digits_of (givens_in self.entry.layout self.entry.bytes.now self.entry.count) }
+    {
+        self.laid(|given| given.digit)
+    }
+
+    // Which cells of a fresh board hold a given: 1 there, 0 elsewhere.
+    pub fn flags(self) -> [u8; 81]
+        ensures { result ≡ given_cells (givens_in self.entry.layout self.entry.bytes.now self.entry.count) }
+    {
+        self.laid(|_given| 1)
+    }
+}
+
+// The same as functions of the three parts, until their callers have moved.
+
 pub fn is_ascending(bytes: &[u8], layout: Layout, count: usize) -> bool
     ensures { result ≡ ascending (givens_in layout bytes.now count) }
 {
-    let mut i: usize = 1;
-    while i < count {
-        let last = given_at(bytes, layout, i - 1);
-        let next = given_at(bytes, layout, i);
-        if !precedes(last, next) {
-            return false;
-        }
-        i += 1;
+    GivenBytes {
+        bytes,
+        layout,
+        count,
     }
-    true
+    .is_ascending()
 }
 
-// The digits of a fresh board: each given's digit at its cell, 0 elsewhere.
-// What is off the grid counts as cell 1; no such given comes this far.
 pub fn put_givens(bytes: &[u8], layout: Layout, count: usize) -> [u8; 81]
     ensures { result ≡ digits_of (givens_in layout bytes.now count) }
 {
-    let mut digits = [0u8; 81];
-    let mut i: usize = 0;
-    while i < count {
-        let g = given_at(bytes, layout, i);
-        digits[index_of(cell_of(g.row, g.column))] = g.digit;
-        i += 1;
+    GivenBytes {
+        bytes,
+        layout,
+        count,
     }
-    digits
+    .digits()
 }
 
-// Which cells of a fresh board hold a given: 1 there, 0 elsewhere.
 pub fn mark_givens(bytes: &[u8], layout: Layout, count: usize) -> [u8; 81]
     ensures { result ≡ given_cells (givens_in layout bytes.now count) }
 {
-    let mut flags = [0u8; 81];
-    let mut i: usize = 0;
-    while i < count {
-        let g = given_at(bytes, layout, i);
-        flags[index_of(cell_of(g.row, g.column))] = 1;
-        i += 1;
+    GivenBytes {
+        bytes,
+        layout,
+        count,
     }
-    flags
+    .flags()
 }

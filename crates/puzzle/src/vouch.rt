@@ -1,30 +1,26 @@
-// `WellPosed::vouch` of the original (sudoku/proof.rs), the
-// reference for opening: numbers 22 to 27, and 19 before them.
-ghost use Rattle.std.specs.Prelude.{◌≡◌, ℕ, ◌≤◌, ◌<◌, List, get_or};
-ghost use Rattle.sudoku.specs.Tests.{both, every};
+// `WellPosed::vouch` of the original (sudoku/proof.rs), the reference for opening: its errors are
+// numbers 22 to 27, and 19 before them. The rows are handed over by value.
+ghost use Rattle.std.specs.Prelude.{◌≡◌, ℕ, ◌≤◌, ◌<◌, List, get_or, IfSome};
+ghost use Rattle.std.specs.Option.{unwrap_or};
+ghost use Rattle.sudoku.specs.Tests.{every};
 ghost use Rattle.sudoku.specs.Grid.{in_range, at};
-ghost use Rattle.puzzle.specs.Refusals.{first_refused};
+ghost use Rattle.puzzle.specs.Refusals.{first_refused, told};
+ghost use Rattle.puzzle.specs.Errors.{well_posed_refusal};
 ghost use Rattle.puzzle.specs.Code.GivenBytes.{givens_in};
 ghost use Rattle.puzzle.specs.Code.Rows.{row_at, rows_of, flat as flat_of};
 ghost use Rattle.puzzle.specs.Vouch.{solution_digit, first_holding, solution_conflict, given_matches, givens_match, vouch as vouch_of, well_posed};
 
-use crate::answer::{accepted, refusal};
-use crate::given_bytes::{given_at, is_ascending};
-use crate::{Given, Layout, Refusal, byte_at, index_of, settled};
-use sudoku::{CELLS, LINE, PEERS_PER_CELL, SIDE, in_range, on_grid, peers, wide};
+use crate::error::WellPosedError;
+use crate::given_bytes::GivenBytes;
+use crate::{Given, Layout, Refusal, answer, byte_at, index_of, settled};
+use sudoku::{CELLS, LINE, SIDE, in_range, on_grid, peers};
 
 // The nine digits of the solution's row r, counted from 0.
 fn row_at(solution: &[u8], r: usize) -> [u8; 9]
     requires { r < 9 }
     ensures { result ≡ row_at solution.now r }
 {
-    let mut row = [0u8; 9];
-    let mut i: usize = 0;
-    while i < LINE {
-        row[i] = byte_at(solution, LINE * r + i);
-        i += 1;
-    }
-    row
+    std::array::from_fn(|i| byte_at(solution, LINE * r + i))
 }
 
 // The solution read from its bytes: nine rows of nine, which every test and the fresh board are handed.
@@ -33,11 +29,8 @@ pub fn rows_of(solution: &[u8]) -> [[u8; 9]; 9]
     ensures { result ≡ rows_of solution.now }
 {
     let mut rows = [[0u8; 9]; 9];
-    let mut i: usize = 0;
-    while i < LINE {
-        let row = row_at(solution, i);
-        rows[i] = row;
-        i += 1;
+    for r in 0..LINE {
+        rows[r] = row_at(solution, r); // row_at is called below 9 alone, which a closure would have to ask
     }
     rows
 }
@@ -46,52 +39,30 @@ pub fn rows_of(solution: &[u8]) -> [[u8; 9]; 9]
 pub fn flat(rows: [[u8; 9]; 9]) -> [u8; 81]
     ensures { result ≡ flat_of rows }
 {
-    let mut digits = [0u8; 81];
-    let mut i: usize = 0;
-    while i < CELLS {
-        digits[i] = rows[i / LINE][i % LINE];
-        i += 1;
-    }
-    digits
+    std::array::from_fn(|i| rows[i / LINE][i % LINE])
 }
 
 // 23 and 24 of what the solution holds at a cell. The rows would be copied at each cell, so their digit is handed over.
-fn solution_digit(digit: u8, cell: usize) -> Refusal
-    ensures { (solution : List ℕ) → at solution cell ≡ digit → result ≡ solution_digit solution cell }
+fn solution_digit(digit: u8, cell: usize) -> Result<(), WellPosedError>
+    ensures { (solution : List ℕ) → at solution cell ≡ digit → told well_posed_refusal result ≡ solution_digit solution cell }
 {
     if digit == 0 {
-        return refusal(23, cell, 0);
+        return Err(WellPosedError::SolutionNotFull { cell });
     }
     if digit > SIDE {
-        return refusal(24, cell, 0);
+        return Err(WellPosedError::SolutionDigitOutOfRange { cell });
     }
-    accepted()
+    Ok(())
 }
 
 // 23 and 24 over the cells in grid order.
-fn first_unfilled(rows: [[u8; 9]; 9]) -> Refusal
-    ensures { result ≡ first_refused (solution_digit (flat_of rows)) 81 1 }
+fn first_unfilled(rows: [[u8; 9]; 9]) -> Result<(), WellPosedError>
+    ensures { told well_posed_refusal result ≡ first_refused (solution_digit (flat_of rows)) 81 1 }
 {
-    let mut cell: usize = 1;
-    while cell <= CELLS {
-        let at = cell - 1;
-        let r = solution_digit(rows[at / LINE][at % LINE], cell);
-        if r.number != 0 {
-            return r;
-        }
-        cell += 1;
+    for at in 0..CELLS {
+        solution_digit(rows[at / LINE][at % LINE], at + 1)?;
     }
-    accepted()
-}
-
-// What was found so far, and a byte: a digit 1 to 9.
-fn digit_step(ok: bool, digit: u8) -> bool
-    ensures { result ≡ both ok (in_range digit) }
-{
-    if in_range(digit) {
-        return ok;
-    }
-    false
+    Ok(())
 }
 
 // Whether every cell holds a digit 1 to 9. The loop has no early exit, so that it tests many at once.
@@ -99,138 +70,145 @@ fn all_digits(rows: [[u8; 9]; 9]) -> bool
     ensures { result ≡ every (λ cell. in_range (at (flat_of rows) cell)) 81 1 }
 {
     let mut ok = true;
-    let mut cell: usize = 1;
-    while cell <= CELLS {
-        let at = cell - 1;
-        ok = digit_step(ok, rows[at / LINE][at % LINE]);
-        cell += 1;
+    for at in 0..CELLS {
+        ok &= in_range(rows[at / LINE][at % LINE]);
     }
     ok
 }
 
 // 23 and 24: the first cell of the solution, in grid order, that is empty or holds something out of range. The
 // solution is tested as a whole first; the walk is slower, and is made only where it has something to name.
-pub fn filled(rows: [[u8; 9]; 9]) -> Refusal
-    ensures { result ≡ first_refused (solution_digit (flat_of rows)) 81 1 }
+pub fn filled(rows: [[u8; 9]; 9]) -> Result<(), WellPosedError>
+    ensures { told well_posed_refusal result ≡ first_refused (solution_digit (flat_of rows)) 81 1 }
 {
     if all_digits(rows) {
-        return accepted();
+        return Ok(());
     }
     first_unfilled(rows)
 }
 
-// The first of the cells that holds the digit, and 0 where none does. A function
-// that reads one digit would be handed a copy of the rows at every turn.
-fn first_holding(rows: [[u8; 9]; 9], digit: u8, cells: [u8; 20]) -> u8
-    requires { (i : ℕ) → i < 20 → get_or cells i 0 ≤ 81 }
-    ensures { result ≡ first_holding (flat_of rows) digit cells }
+// The first of the cells that holds the digit. A function that
+// reads one digit would be handed a copy of the rows at every turn.
+fn first_holding(rows: [[u8; 9]; 9], digit: u8, cells: [u8; 20]) -> Option<u8>
+    requires { (i : ℕ) → i < 20 → (1 ≤ get_or cells i 0) × (get_or cells i 0 ≤ 81) }
+    ensures first { unwrap_or result 0 ≡ first_holding (flat_of rows) digit cells }
+    ensures cell { IfSome result (λ found. 1 ≤ found) }
 {
-    let mut i: usize = 0;
-    while i < PEERS_PER_CELL {
-        let at = index_of(wide(cells[i]));
+    for cell in cells {
+        let at = index_of(usize::from(cell));
         if rows[at / LINE][at % LINE] == digit {
-            return cells[i];
+            return Some(cell);
         }
-        i += 1;
     }
-    0
+    None
 }
 
-// 25 at one cell of the solution: inner is the first peer equal to it.
-fn conflict_at(rows: [[u8; 9]; 9], cell: usize) -> Refusal
+// 25 at one cell of the solution, with the first peer equal to it.
+fn conflict_at(rows: [[u8; 9]; 9], cell: usize) -> Result<(), WellPosedError>
     requires { (1 ≤ cell) × (cell ≤ 81) }
-    ensures { result ≡ solution_conflict (flat_of rows) cell }
+    ensures { told well_posed_refusal result ≡ solution_conflict (flat_of rows) cell }
 {
     let at = cell - 1;
-    let peer = first_holding(rows, rows[at / LINE][at % LINE], peers(cell));
-    if peer != 0 {
-        return refusal(25, cell, peer);
+    match first_holding(rows, rows[at / LINE][at % LINE], peers(cell)) {
+        Some(peer) => Err(WellPosedError::SolutionConflict { cell, peer }),
+        None => Ok(()),
     }
-    accepted()
 }
 
 // 25 over the cells in grid order.
-fn first_conflict(rows: [[u8; 9]; 9]) -> Refusal
-    ensures { result ≡ first_refused (solution_conflict (flat_of rows)) 81 1 }
+fn first_conflict(rows: [[u8; 9]; 9]) -> Result<(), WellPosedError>
+    ensures { told well_posed_refusal result ≡ first_refused (solution_conflict (flat_of rows)) 81 1 }
 {
-    let mut cell: usize = 1;
-    while cell <= CELLS {
-        let r = conflict_at(rows, cell);
-        if r.number != 0 {
-            return r;
-        }
-        cell += 1;
+    for cell in 1..CELLS + 1 {
+        conflict_at(rows, cell)?;
     }
-    accepted()
+    Ok(())
 }
 
 // 25: whether two peers of the solution hold one digit; the first such pair in grid order. The walk over the rows is
 // slow, and is made only where it has something to name: whether it has, a test of the whole grid says, over a copy
 // laid out flat as a board's digits are.
-pub fn consistent(rows: [[u8; 9]; 9]) -> Refusal
-    ensures { result ≡ first_refused (solution_conflict (flat_of rows)) 81 1 }
+pub fn consistent(rows: [[u8; 9]; 9]) -> Result<(), WellPosedError>
+    ensures { told well_posed_refusal result ≡ first_refused (solution_conflict (flat_of rows)) 81 1 }
 {
-    let digits = flat(rows);
-    if settled(&digits, 0) == 1 {
-        return accepted(); // all 81 cells hold digits and none conflicts
+    if settled(&flat(rows), 0) == 1 {
+        return Ok(()); // all 81 cells hold digits and none conflicts
     }
     first_conflict(rows)
 }
 
 // 26 and 27 of one given with its index from 1.
-fn given_matches(rows: [[u8; 9]; 9], g: Given, index: usize) -> Refusal
-    ensures { result ≡ given_matches (flat_of rows) g index }
+fn given_matches(rows: [[u8; 9]; 9], g: Given, index: usize) -> Result<(), WellPosedError>
+    ensures { told well_posed_refusal result ≡ given_matches (flat_of rows) g index }
 {
     if !on_grid(g.row, g.column) {
-        return refusal(26, index, 0);
+        return Err(WellPosedError::GivenOffGrid { index });
     }
-    let r = wide(g.row) - 1; // counted from 0
-    let c = wide(g.column) - 1;
+    let r = usize::from(g.row) - 1; // counted from 0
+    let c = usize::from(g.column) - 1;
     if rows[r][c] != g.digit {
-        return refusal(27, index, 0);
+        return Err(WellPosedError::GivenMismatch { index });
     }
-    accepted()
+    Ok(())
 }
 
-// 26 and 27: the first given that is off the grid or whose digit is not the solution's there.
-pub fn matches(rows: [[u8; 9]; 9], bytes: &[u8], layout: Layout, count: usize) -> Refusal
-    ensures { result ≡ givens_match (flat_of rows) (givens_in layout bytes.now count) 1 }
-{
-    let mut i: usize = 0;
-    while i < count {
-        let r = given_matches(rows, given_at(bytes, layout, i), i + 1);
-        if r.number != 0 {
-            return r;
+impl<'a> GivenBytes<'a> {
+    // 26 and 27: the first given that is off the grid or whose digit is not the solution's there.
+    pub fn match_rows(self, rows: [[u8; 9]; 9]) -> Result<(), WellPosedError>
+        ensures { told well_posed_refusal result
+            ≡ givens_match (flat_of rows) (givens_in self.entry.layout self.entry.bytes.now self.entry.count) 1 }
+    {
+        for i in 0..self.count {
+            given_matches(rows, self.given(i), i + 1)?;
         }
-        i += 1;
+        Ok(())
     }
-    accepted()
+
+    // Whether the givens and the solution are a puzzle, but for the order of the givens.
+    pub fn vouch(self, rows: [[u8; 9]; 9]) -> Result<(), WellPosedError>
+        ensures { told well_posed_refusal result
+            ≡ vouch_of (givens_in self.entry.layout self.entry.bytes.now self.entry.count) (flat_of rows) }
+    {
+        if self.count >= CELLS {
+            return Err(WellPosedError::NothingLeftToPlay);
+        }
+        filled(rows)?;
+        consistent(rows)?;
+        self.match_rows(rows)
+    }
+
+    // Whether the givens and the solution are a puzzle.
+    pub fn well_posed(self, rows: [[u8; 9]; 9]) -> Result<(), WellPosedError>
+        ensures { told well_posed_refusal result
+            ≡ well_posed (givens_in self.entry.layout self.entry.bytes.now self.entry.count) (flat_of rows) }
+    {
+        if !self.is_ascending() {
+            return Err(WellPosedError::NotAscending);
+        }
+        self.vouch(rows)
+    }
 }
 
-// Numbers 22 to 27 of givens and their solution.
+// The same as functions of the three parts, which answer the refusal, until their callers have moved.
+
 pub fn vouch(bytes: &[u8], layout: Layout, count: usize, rows: [[u8; 9]; 9]) -> Refusal
     ensures { result ≡ vouch_of (givens_in layout bytes.now count) (flat_of rows) }
 {
-    if count >= CELLS {
-        return refusal(22, 0, 0);
+    answer::told(GivenBytes {
+        bytes,
+        layout,
+        count,
     }
-    let empty = filled(rows);
-    if empty.number != 0 {
-        return empty;
-    }
-    let conflict = consistent(rows);
-    if conflict.number != 0 {
-        return conflict;
-    }
-    matches(rows, bytes, layout, count)
+    .vouch(rows))
 }
 
-// Number 19, then 22 to 27.
 pub fn well_posed(bytes: &[u8], layout: Layout, count: usize, rows: [[u8; 9]; 9]) -> Refusal
     ensures { result ≡ well_posed (givens_in layout bytes.now count) (flat_of rows) }
 {
-    if !is_ascending(bytes, layout, count) {
-        return refusal(19, 0, 0);
+    answer::told(GivenBytes {
+        bytes,
+        layout,
+        count,
     }
-    vouch(bytes, layout, count, rows)
+    .well_posed(rows))
 }

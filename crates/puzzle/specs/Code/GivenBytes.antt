@@ -1,7 +1,8 @@
 -- Givens as the code reads them out of bytes: opening's triples, or the items of a record.
 -- Assumes nothing.
-use Rattle.std.specs.Prelude.{ℕ, ◌+◌, ◌*◌, List, get_or}
-use Rattle.sudoku.specs.Tests.{listed}
+use Rattle.std.specs.Prelude.{ℕ, ◌+◌, ◌*◌, List, get_or, replicate}
+use Rattle.sudoku.specs.Tests.{listed, run}
+use Rattle.sudoku.specs.Grid.{cell_of, put}
 use Rattle.puzzle.specs.declared.Given.{Given}
 use Rattle.puzzle.specs.declared.Layout.{Layout}
 use Rattle.puzzle.specs.declared.Layout.TheVariants.{Triples, Items}
@@ -27,3 +28,9 @@ given_in Items bytes i = given_at bytes 1 4 i
 
 unfoldable pub givens_in : Layout → List ℕ → ℕ → List Given
 givens_in layout bytes count = listed (given_in layout bytes) count 0
+
+-- the 81 cells with a value of each given laid at its cell, in order, over zeros
+unfoldable pub laid_by : (Given → ℕ) → Layout → List ℕ → ℕ → List ℕ
+laid_by value layout bytes count =
+    run (λ cells i. put cells (cell_of (given_in layout bytes i).row (given_in layout bytes i).column) (value (given_in layout bytes i)))
+    (replicate 81 0) count 0

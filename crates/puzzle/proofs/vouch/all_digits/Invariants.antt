@@ -1,7 +1,7 @@
 -- `puzzle::vouch::all_digits` meets its contract. The invariant: what
 -- was found so far, and what is left of the walk, make the whole walk.
 -- Assumes nothing.
-use Prim.Native.Nat.{ℕ, ◌≤◌, ◌-◌}
+use Prim.Native.Nat.{ℕ, ◌+◌, ◌-◌}
 use mathlib.Core.Path.{◌≡◌}
 use mathlib.Core.Bool.{Bool}
 use mathlib.Core.List.{List}
@@ -14,8 +14,5 @@ use Rattle.puzzle.proofs.vouch.all_digits.Given as goal
 abbrev pub test : List (List ℕ) → ℕ → Bool
 test rows cell = in_range (at (flat rows) cell)
 
-abbrev pub invariant-loop-cell : goal.invariant-loop-cell
-invariant-loop-cell l = (1 ≤ l.cell) × (l.cell ≤ 82) × (every (test l.rows) 81 1 ≡ both l.ok (every (test l.rows) (82 - l.cell) l.cell))
-
-abbrev pub decreases-loop-cell : goal.decreases-loop-cell
-decreases-loop-cell l = 82 - l.cell
+abbrev pub invariant-loop-at : goal.invariant-loop-at
+invariant-loop-at l = every (test l.rows) 81 1 ≡ both l.ok (every (test l.rows) (82 - (l.at + 1)) (l.at + 1))

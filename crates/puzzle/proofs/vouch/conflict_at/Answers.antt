@@ -1,13 +1,14 @@
 -- `puzzle::vouch::conflict_at` meets its contract: the first peer equal to the cell decides.
 -- Assumes nothing.
-use Prim.Native.Nat.{ℕ}
-use mathlib.Core.Path.{◌≡◌, sym, ◌∙◌}
+use Prim.Native.Nat.{ℕ, ◌≤◌}
+use mathlib.Core.Path.{◌≡◌, refl, sym}
 use mathlib.Core.List.{List}
+use native.Mathlib.Omega.{arith}
 use borrow.Author.Tests.{eq-eqb, ne_eqb}
 use lib.Dec.{eqb}
 use Rattle.sudoku.specs.Grid.{at, peers_of}
 use Rattle.sudoku.proofs.Walks.{not_is_true, not_is_false}
-use Rattle.sudoku.proofs.Grid.{is_cell_lem, peers_to}
+use Rattle.sudoku.proofs.Grid.{is_cell_lem, peers_from, peers_to}
 use Rattle.puzzle.specs.Refusals.{refusal, accepted}
 use Rattle.puzzle.specs.Vouch.{first_holding, solution_conflict}
 use Rattle.puzzle.specs.Code.Rows.{flat}
@@ -17,27 +18,27 @@ use Rattle.puzzle.proofs.Rows.{flat_cell}
 use Rattle.puzzle.proofs.vouch.conflict_at.Goals as goal
 
 module _ (s : List ℕ) (cell peer : ℕ) (e : peer ≡ first_holding s (at s cell) (peers_of cell)) where
-  held : (peer ≡ 0 → ⊥) → solution_conflict s cell ≡ refusal 25 cell peer
+  held : 1 ≤ peer → refusal 25 cell peer ≡ solution_conflict s cell
   unfolding solution_conflict
-  held n = rw (← e) (refused_if_lem _ (refusal 25 cell peer) (not_is_true (eqb peer 0) (ne_eqb peer 0 n)))
+  held h = sym (rw (← e) (refused_if_lem _ (refusal 25 cell peer) (not_is_true (eqb peer 0) (ne_eqb peer 0 (λ z. omega (arith, z))))))
 
-  free : peer ≡ 0 → solution_conflict s cell ≡ accepted
+  free : peer ≡ 0 → accepted ≡ solution_conflict s cell
   unfolding solution_conflict
-  free z = rw (← e) (if_not _ (refusal 25 cell peer) (not_is_false (eqb peer 0) (eq-eqb peer 0 z)))
+  free z = sym (rw (← e) (if_not _ (refusal 25 cell peer) (not_is_false (eqb peer 0) (eq-eqb peer 0 z))))
 
-pub first_holding-peer-requires : goal.first_holding-peer-requires
-first_holding-peer-requires c i h =
-    let a = c.args in
-    rw c.peers.ensures (peers_to a.cell (is_cell_lem a.cell c.requires.0 c.requires.1) i h)
+pub first_holding-requires : goal.first_holding-requires
+first_holding-requires c i h =
+    let cell = c.args.cell in
+    let p = is_cell_lem cell c.requires.0 c.requires.1 in
+    rw c.peers.ensures (peers_from cell p i h, peers_to cell p i h)
 
-pub returns-then-peer-ne0 : goal.returns-then-peer-ne0
-returns-then-peer-ne0 c =
+pub returns-in-Some : goal.returns-in-Some
+returns-in-Some c =
     let a = c.args in
-    c.refusal.ensures ∙ sym (held (flat a.rows) a.cell c.first_holding-peer.result (let a = c.args in
-    rw (c.first_holding-peer.ensures, c.peers.ensures, flat_cell a.rows a.cell c.requires.1)) c.if-peer-ne0.true)
+    held (flat a.rows) a.cell c.in-Some.peer
+    (rw (← flat_cell a.rows a.cell c.requires.1, c.peers.ensures) at c.in-Some.ensures.first) c.in-Some.ensures.cell
 
-pub returns : goal.returns
-returns c =
+pub returns-in-None : goal.returns-in-None
+returns-in-None c =
     let a = c.args in
-    c.accepted.ensures ∙ sym (free (flat a.rows) a.cell c.first_holding-peer.result (let a = c.args in
-    rw (c.first_holding-peer.ensures, c.peers.ensures, flat_cell a.rows a.cell c.requires.1)) c.if-peer-ne0.false)
+    free (flat a.rows) a.cell 0 (rw (← flat_cell a.rows a.cell c.requires.1, c.peers.ensures) at c.in-None.ensures.first) refl

@@ -7,7 +7,4 @@ use Rattle.puzzle.proofs.vouch.consistent.Goals as goal
 
 pub returns-then-settled-eq1 : goal.returns-then-settled-eq1
 returns-then-settled-eq1 c =
-    rw (c.accepted.ensures, ← c.flat-digits.ensures) (sym (settled_passes _ (sym c.settled.ensures ∙ c.if-settled-eq1.true)))
-
-pub returns : goal.returns
-returns c = c.first_conflict.ensures
+    rw (← c.flat.ensures) (sym (settled_passes _ (sym c.settled.ensures ∙ c.if-settled-eq1.true)))

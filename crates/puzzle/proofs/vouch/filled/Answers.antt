@@ -5,7 +5,4 @@ use Rattle.puzzle.proofs.Posed.{digits_pass}
 use Rattle.puzzle.proofs.vouch.filled.Goals as goal
 
 pub returns-then-all_digits : goal.returns-then-all_digits
-returns-then-all_digits c = c.accepted.ensures ∙ sym (digits_pass _ (sym c.all_digits.ensures ∙ c.if-all_digits.true))
-
-pub returns : goal.returns
-returns c = c.first_unfilled.ensures
+returns-then-all_digits c = sym (digits_pass _ (sym c.all_digits.ensures ∙ c.if-all_digits.true))

@@ -2,31 +2,30 @@
 -- Assumes nothing.
 use mathlib.Core.Path.{refl, sym, ◌∙◌}
 use native.Mathlib.Omega.{arith}
-use Rattle.puzzle.proofs.Refusals.{walk_refused, walk_more, walk_all}
+use Rattle.puzzle.specs.Refusals.{accepted}
+use Rattle.puzzle.specs.Errors.{well_posed_refusal}
 use Rattle.puzzle.specs.Vouch.{solution_conflict}
 use Rattle.puzzle.specs.Code.Rows.{flat}
+use Rattle.puzzle.proofs.Refusals.{walk_refused, walk_more, walk_all, told_by, refuses}
 use Rattle.puzzle.proofs.vouch.first_conflict.Goals as goal
 
 pub loop-cell-init : goal.loop-cell-init
-loop-cell-init c = (omega arith, omega arith, refl)
+loop-cell-init c = refl
 
-pub returns-then-r-ne0 : goal.returns-then-r-ne0
-returns-then-r-ne0 c =
+pub returns-in_err-conflict_at : goal.returns-in_err-conflict_at
+returns-in_err-conflict_at c =
     let turn = c.loop-cell in
-    sym (turn.invariant.2 ∙ walk_refused (solution_conflict (flat c.args.rows)) 82 turn.cell
-    c.conflict_at-r.result (omega arith) c.conflict_at-r.ensures c.if-r-ne0.true)
+    let e = c.in_err-conflict_at.field-0.0 in
+    told_by _ e _ c.from_residual.ensures.1
+    (sym (turn.invariant ∙ walk_refused (solution_conflict (flat c.args.rows)) 82 turn.cell (well_posed_refusal e) (omega arith)
+    c.in_err-conflict_at.ensures (refuses e)))
 
 pub loop-cell-preserved : goal.loop-cell-preserved
 loop-cell-preserved c =
-    let turn = c.loop-cell in (
-      omega arith,
-      omega arith,
-      turn.invariant.2 ∙ walk_more (solution_conflict (flat c.args.rows)) 82
-          turn.cell c.conflict_at-r.result (omega arith) c.conflict_at-r.ensures c.if-r-ne0.false,
-    )
+    let turn = c.loop-cell in
+    turn.invariant ∙ walk_more (solution_conflict (flat c.args.rows)) 82 turn.cell accepted (omega arith) c.in_ok-conflict_at.ensures refl
 
 pub returns : goal.returns
 returns c =
     let turn = c.loop-cell in
-    c.accepted.ensures ∙ sym (turn.invariant.2 ∙ walk_all (solution_conflict (flat c.args.rows)) 82 turn.cell
-    (omega arith))
+    sym (turn.invariant ∙ walk_all (solution_conflict (flat c.args.rows)) 82 turn.cell (omega arith))

@@ -1,6 +1,6 @@
 -- `puzzle::vouch::first_conflict` meets its contract: what is left to test from `cell` on decides.
 -- Assumes nothing.
-use Prim.Native.Nat.{◌≤◌, ◌-◌}
+use Prim.Native.Nat.{◌-◌}
 use mathlib.Core.Path.{◌≡◌}
 use Rattle.puzzle.specs.Refusals.{first_refused}
 use Rattle.puzzle.specs.Vouch.{solution_conflict}
@@ -9,7 +9,4 @@ use Rattle.puzzle.proofs.vouch.first_conflict.Given as goal
 
 abbrev pub invariant-loop-cell : goal.invariant-loop-cell
 invariant-loop-cell l =
-    (1 ≤ l.cell) × (l.cell ≤ 82) × (first_refused (solution_conflict (flat l.rows)) 81 1 ≡ first_refused (solution_conflict (flat l.rows)) (82 - l.cell) l.cell)
-
-abbrev pub decreases-loop-cell : goal.decreases-loop-cell
-decreases-loop-cell l = 82 - l.cell
+    first_refused (solution_conflict (flat l.rows)) 81 1 ≡ first_refused (solution_conflict (flat l.rows)) (82 - l.cell) l.cell

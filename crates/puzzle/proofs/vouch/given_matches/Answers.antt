@@ -44,12 +44,12 @@ module _ (s : List ℕ) (g : Given) (index : ℕ) where
 pub returns-then-not-on_grid : goal.returns-then-not-on_grid
 returns-then-not-on_grid c =
     let a = c.args in
-    c.refusal.ensures ∙ sym (off_grid (flat a.rows) a.g a.index (sym c.on_grid.ensures ∙ c.if-not-on_grid.true))
+    sym (off_grid (flat a.rows) a.g a.index (sym c.on_grid.ensures ∙ c.if-not-on_grid.true))
 
 pub overflow_sub-r : goal.overflow_sub-r
 overflow_sub-r c = omega (
   arith,
-  c.wide-r.ensures,
+  c.from-r.ensures,
   (let a = c.args in
       grid_bounds a.g.row a.g.column (sym c.on_grid.ensures ∙ c.if-not-on_grid.false)),
 )
@@ -57,7 +57,7 @@ overflow_sub-r c = omega (
 pub overflow_sub-c : goal.overflow_sub-c
 overflow_sub-c c = omega (
   arith,
-  c.wide-c.ensures,
+  c.from-c.ensures,
   (let a = c.args in
       grid_bounds a.g.row a.g.column (sym c.on_grid.ensures ∙ c.if-not-on_grid.false)),
 )
@@ -65,8 +65,8 @@ overflow_sub-c c = omega (
 pub offset_bounds-rows-r : goal.offset_bounds-rows-r
 offset_bounds-rows-r c = omega (
   arith,
-  c.wide-r.ensures,
-  c.wide-c.ensures,
+  c.from-r.ensures,
+  c.from-c.ensures,
   (let a = c.args in
       grid_bounds a.g.row a.g.column (sym c.on_grid.ensures ∙ c.if-not-on_grid.false)),
 )
@@ -74,7 +74,7 @@ offset_bounds-rows-r c = omega (
 pub bounds-rows-r : goal.bounds-rows-r
 bounds-rows-r c = omega (
   arith,
-  c.wide-r.ensures,
+  c.from-r.ensures,
   (let a = c.args in
       grid_bounds a.g.row a.g.column (sym c.on_grid.ensures ∙ c.if-not-on_grid.false)),
 )
@@ -82,7 +82,7 @@ bounds-rows-r c = omega (
 pub bounds-rows-c : goal.bounds-rows-c
 bounds-rows-c c = omega (
   arith,
-  c.wide-c.ensures,
+  c.from-c.ensures,
   (let a = c.args in
       grid_bounds a.g.row a.g.column (sym c.on_grid.ensures ∙ c.if-not-on_grid.false)),
 )
@@ -90,11 +90,11 @@ bounds-rows-c c = omega (
 pub returns-then-rows-r : goal.returns-then-rows-r
 returns-then-rows-r c =
     let a = c.args in
-    c.refusal-then-rows-r.ensures ∙ sym (differs (flat a.rows) a.g a.index (sym c.on_grid.ensures ∙ c.if-not-on_grid.false) (λ e. c.if-rows-r.true (sym (let a = c.args in
-    rw (c.wide-r.ensures.0, c.wide-c.ensures.0) (flat_position a.rows a.g.row a.g.column (sym c.on_grid.ensures ∙ c.if-not-on_grid.false))) ∙ e)))
+    sym (differs (flat a.rows) a.g a.index (sym c.on_grid.ensures ∙ c.if-not-on_grid.false) (λ e. c.if-rows-r.true (sym (let a = c.args in
+    rw (c.from-r.ensures, c.from-c.ensures) (flat_position a.rows a.g.row a.g.column (sym c.on_grid.ensures ∙ c.if-not-on_grid.false))) ∙ e)))
 
 pub returns : goal.returns
 returns c =
     let a = c.args in
-    c.accepted.ensures ∙ sym (agrees (flat a.rows) a.g a.index (sym c.on_grid.ensures ∙ c.if-not-on_grid.false) ((let a = c.args in
-    rw (c.wide-r.ensures.0, c.wide-c.ensures.0) (flat_position a.rows a.g.row a.g.column (sym c.on_grid.ensures ∙ c.if-not-on_grid.false))) ∙ c.if-rows-r.false))
+    sym (agrees (flat a.rows) a.g a.index (sym c.on_grid.ensures ∙ c.if-not-on_grid.false) ((let a = c.args in
+    rw (c.from-r.ensures, c.from-c.ensures) (flat_position a.rows a.g.row a.g.column (sym c.on_grid.ensures ∙ c.if-not-on_grid.false))) ∙ c.if-rows-r.false))

@@ -34,12 +34,12 @@ module _ (s : List ℕ) (cell : ℕ) where
         ∙ if_not _ (refusal 24 cell 0) (not_is_false (leb (at s cell) 9) (le-leb (at s cell) 9 h))
 
 pub returns-then-digit-eq0 : goal.returns-then-digit-eq0
-returns-then-digit-eq0 c solution e = c.refusal.ensures ∙ sym (empty solution c.args.cell (e ∙ c.if-digit-eq0.true))
+returns-then-digit-eq0 c solution e = sym (empty solution c.args.cell (e ∙ c.if-digit-eq0.true))
 
 pub returns-then-digit-gt-SIDE : goal.returns-then-digit-gt-SIDE
 returns-then-digit-gt-SIDE c solution e =
-    c.refusal-then-digit-gt-SIDE.ensures ∙ sym (large solution c.args.cell (λ z. c.if-digit-eq0.false (sym e ∙ z)) (rw e c.if-digit-gt-SIDE.true))
+    sym (large solution c.args.cell (λ z. c.if-digit-eq0.false (sym e ∙ z)) (rw e c.if-digit-gt-SIDE.true))
 
 pub returns : goal.returns
 returns c solution e =
-    c.accepted.ensures ∙ sym (digit solution c.args.cell (λ z. c.if-digit-eq0.false (sym e ∙ z)) (rw e c.if-digit-gt-SIDE.false))
+    sym (digit solution c.args.cell (λ z. c.if-digit-eq0.false (sym e ∙ z)) (rw e c.if-digit-gt-SIDE.false))

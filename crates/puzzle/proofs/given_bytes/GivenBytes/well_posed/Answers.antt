@@ -1,4 +1,4 @@
--- `puzzle::vouch::well_posed` meets its contract: 19, then 22 to 27.
+-- `puzzle::given_bytes::GivenBytes::well_posed` meets its contract: 19, then 22 to 27.
 -- Assumes nothing.
 use mathlib.Core.Path.{refl, sym, ◌∙◌}
 use borrow.Author.Tests.{eqb-false}
@@ -9,22 +9,21 @@ use Rattle.puzzle.specs.Code.GivenBytes.{givens_in}
 use Rattle.puzzle.specs.Vouch.{well_posed}
 use Rattle.puzzle.proofs.Accepted.{if_not}
 use Rattle.puzzle.proofs.Refusals.{refused_if_lem, or_else_by, or_else_past}
-use Rattle.puzzle.proofs.vouch.well_posed.Goals as goal
+use Rattle.puzzle.proofs.given_bytes.GivenBytes.well_posed.Goals as goal
 
 pub returns-then-not-is_ascending : goal.returns-then-not-is_ascending
 unfolding well_posed
 returns-then-not-is_ascending c =
-    let a = c.args in
-    c.refusal.ensures
-    ∙ sym (or_else_by _ _ (refusal 19 0 0)
-    (refused_if_lem _ (refusal 19 0 0) (not_is_true (ascending (givens_in a.layout a.bytes.now a.count))
+    let self = c.args.self in
+    sym (or_else_by _ _ (refusal 19 0 0)
+    (refused_if_lem _ (refusal 19 0 0) (not_is_true (ascending (givens_in self.layout self.bytes.now self.count))
     (sym c.is_ascending.ensures ∙ c.if-not-is_ascending.true))) (eqb-false 19 0 refl))
 
 pub returns : goal.returns
 unfolding well_posed
 returns c =
-    let a = c.args in
+    let self = c.args.self in
     c.vouch.ensures
     ∙ sym (or_else_past _ _
-    (if_not _ (refusal 19 0 0) (not_is_false (ascending (givens_in a.layout a.bytes.now a.count))
+    (if_not _ (refusal 19 0 0) (not_is_false (ascending (givens_in self.layout self.bytes.now self.count))
     (sym c.is_ascending.ensures ∙ c.if-not-is_ascending.false))))

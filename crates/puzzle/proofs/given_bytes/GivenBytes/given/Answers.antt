@@ -1,4 +1,4 @@
--- `puzzle::given_bytes::given_at` meets its contract: where a test fails
+-- `puzzle::given_bytes::GivenBytes::given` meets its contract: where a test fails
 -- the given would start past the end, and all such givens are zeros.
 -- Assumes nothing.
 use Prim.Native.Nat.{ℕ, ◌+◌, ◌*◌, ◌/◌, ◌<◌}
@@ -11,7 +11,7 @@ use Rattle.puzzle.specs.declared.Layout.{Layout}
 use Rattle.puzzle.specs.declared.Layout.TheVariants.{Triples, Items}
 use Rattle.puzzle.specs.Code.GivenBytes.{given_from, given_in, given_at}
 use Rattle.puzzle.proofs.GivenBytes.{given_past}
-use Rattle.puzzle.proofs.given_bytes.given_at.Goals as goal
+use Rattle.puzzle.proofs.given_bytes.GivenBytes.given.Goals as goal
 
 module _ (bytes : List ℕ) (i : ℕ) where
   -- what an arm of the match knows of the layout
@@ -37,21 +37,21 @@ module _ (bytes : List ℕ) (i : ℕ) where
 pub returns-then-i-bytes : goal.returns-then-i-bytes
 returns-then-i-bytes c =
     let a = c.args in
-    c.given_from.ensures ∙ triple_past a.bytes.now a.i c.if-i-bytes.true ∙ told a.bytes.now a.i
+    c.given_from.ensures ∙ triple_past a.self.bytes.now a.i c.if-i-bytes.true ∙ told a.self.bytes.now a.i
     c.in-Triples.is
 
 pub returns-then-i-bytes-2 : goal.returns-then-i-bytes-2
 returns-then-i-bytes-2 c =
     let a = c.args in
-    c.given_from-then-i-bytes-2.ensures ∙ item_past a.bytes.now a.i c.if-i-bytes-2.true ∙ told a.bytes.now a.i
+    c.given_from-then-i-bytes-2.ensures ∙ item_past a.self.bytes.now a.i c.if-i-bytes-2.true ∙ told a.self.bytes.now a.i
     c.in-Items.is
 
 pub returns-else-i-bytes : goal.returns-else-i-bytes
 returns-else-i-bytes c =
     let a = c.args in
-    c.given_from-in-Triples.ensures ∙ triple a.bytes.now a.i ∙ told a.bytes.now a.i c.in-Triples.is
+    c.given_from-in-Triples.ensures ∙ triple a.self.bytes.now a.i ∙ told a.self.bytes.now a.i c.in-Triples.is
 
 pub returns-else-i-bytes-2 : goal.returns-else-i-bytes-2
 returns-else-i-bytes-2 c =
     let a = c.args in
-    c.given_from-in-Items.ensures ∙ item a.bytes.now a.i ∙ told a.bytes.now a.i c.in-Items.is
+    c.given_from-in-Items.ensures ∙ item a.self.bytes.now a.i ∙ told a.self.bytes.now a.i c.in-Items.is
