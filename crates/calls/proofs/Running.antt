@@ -1,4 +1,4 @@
--- The laws of a run: what each kind of call leaves, one group more, and none left.
+-- The laws of a run: one group more, and none left.
 -- Assumes nothing.
 use Prim.Native.Nat.{ℕ, zero, suc, ◌+◌, ◌-◌, ◌*◌, ◌≤◌, ◌<◌}
 use mathlib.Core.Path.{◌≡◌, refl, sym, ap, ◌∙◌}
@@ -23,36 +23,6 @@ use Rattle.calls.specs.declared.Call.TheVariants.{Make, Undo, Redo, Check}
 use Rattle.calls.specs.Session.{Session, Said, Called, called, call_of}
 use Rattle.calls.specs.Encoded.{call_bytes, session, said, decode_at, run_one, left_by, said_to, answer_bytes, answers_bytes, Ran, ran, run_from}
 use Rattle.calls.specs.Code.Running.{answered_at, run_at}
-
--- ---- what a call answers and leaves
-
-module _ (b : Board) (journal checks : List ℕ) where
-  pub makes : (m : Move) (a : Answer) (after : List ℕ) → (a ≡ (play_of b journal m).answer) × (after ≡ (play_of b journal m).journal)
-      → called a.refusal false a.board after checks ≡ call_of (session b journal checks) (Make m)
-  unfolding call_of
-  makes m a after p = λ i. called (p.0 i).refusal false (p.0 i).board (p.1 i) checks
-
-  pub undoes : (a : Answer) → a ≡ undo_of b journal → called a.refusal false a.board journal checks ≡ call_of (session b journal checks) Undo
-  unfolding call_of
-  undoes a p = λ i. called (p i).refusal false (p i).board journal checks
-
-  pub redoes : (a : Answer) → a ≡ redo_of b journal → called a.refusal false a.board journal checks ≡ call_of (session b journal checks) Redo
-  unfolding call_of
-  redoes a p = λ i. called (p i).refusal false (p i).board journal checks
-
-  pub checks_it : (row column : ℕ) (r : Checked) (after : List ℕ) → (r ≡ (check_of b checks row column).answer) × (after ≡ (check_of b checks row column).checks)
-      → called r.refusal r.right r.board journal after ≡ call_of (session b journal checks) (Check row column)
-  unfolding call_of
-  checks_it row column r after p = λ i. called (p.0 i).refusal (p.0 i).right (p.0 i).board journal (p.1 i)
-
--- ---- one group more, and none left
-
--- an answer written in its place
-pub answers_it : (answers : List ℕ) (i : ℕ) (r : Refusal) (right : Bool) (b left : Board) (journal checks after : List ℕ) (c : Called)
-    → (left ≡ b) × (after ≡ over answers (call_bytes * i) (answer_bytes (said r right))) → called r right b journal checks ≡ c
-    → ran (session left journal checks) after ≡ answered_at answers i c
-unfolding answered_at called
-answers_it answers i r right b left journal checks after c p q = (λ j. ran (session (p.0 j) journal checks) (p.1 j)) ∙ ap (answered_at answers i) q
 
 -- four bytes for each group
 pub length_answers : (calls : List ℕ) (s : Session) (n i : ℕ) → length (answers_bytes (said_to s (listed (decode_at calls) n i))) ≡ call_bytes * n

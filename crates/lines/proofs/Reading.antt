@@ -146,13 +146,6 @@ module _ (line output : List ℕ) where
   abbrev bytes : List ℕ
   bytes = triple_bytes (line_givens line)
 
-  pub no_room : length output < givens_room → wrote (refusal 34 0 0) 0 output ≡ read_line_of line output
-  unfolding read_line_of read_refusal
-  no_room h =
-      wrote_nothing (read_refusal line output) bytes output (refusal 34 0 0)
-      (or_else_by _ _ (refusal 34 0 0) (refused_if_lem _ (refusal 34 0 0) (lt-ltb (length output) givens_room h)) (eqb-false 34 0 refl))
-      (eqb-false 34 0 refl)
-
   module _ (room : givens_room ≤ length output) (r : Refusal) (e : r ≡ line_refusal line) where
     by_line : read_refusal line output ≡ r
     unfolding read_refusal

@@ -1,4 +1,4 @@
--- What writing a line tests, 2 and 34, and what it answers; and the characters laid one after the other.
+-- The characters of a line laid one after the other, and what writing answers where none of 2 and 34 applies.
 -- Assumes nothing.
 use Prim.Native.Nat.{ℕ, ◌+◌, ◌-◌, ◌≤◌, ◌<◌}
 use mathlib.Core.Path.{◌≡◌, refl, sym, ap, ◌∙◌}
@@ -43,23 +43,10 @@ module _ (f : ℕ → ℕ) where
 -- ---- what writing answers
 
 module _ (b : Board) (output : List ℕ) where
-  pub no_board : is_board b ≡ false → wrote (refusal 2 0 0) 0 output ≡ write_line_of b output
-  unfolding write_line_of write_line_refusal
-  no_board t =
-      wrote_nothing (write_line_refusal b output) (line_of b) output (refusal 2 0 0)
-      (or_else_by _ _ (refusal 2 0 0) (refused_if_lem _ (refusal 2 0 0) (not_is_true _ t)) (eqb-false 2 0 refl))
-      (eqb-false 2 0 refl)
-
   module _ (t : is_board b ≡ true) where
     by_room : write_line_refusal b output ≡ refused_if (ltb (length output) line_bytes) (refusal 34 0 0)
     unfolding write_line_refusal
     by_room = or_else_past _ _ (if_not _ (refusal 2 0 0) (not_is_false _ t))
-
-    pub no_room : length output < line_bytes → wrote (refusal 34 0 0) 0 output ≡ write_line_of b output
-    unfolding write_line_of
-    no_room h =
-        wrote_nothing (write_line_refusal b output) (line_of b) output (refusal 34 0 0)
-        (by_room ∙ refused_if_lem _ (refusal 34 0 0) (lt-ltb (length output) line_bytes h)) (eqb-false 34 0 refl)
 
     pub is_written : line_bytes ≤ length output → wrote accepted line_bytes (over output 0 (line_of b)) ≡ write_line_of b output
     unfolding write_line_of line_of

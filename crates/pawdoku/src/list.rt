@@ -101,6 +101,7 @@ pub fn pawdoku_play(
 {
     let end = groups(calls.len(), answers.len());
     let mut left = board;
+    // by index: nothing is known of what a chain over parts that are written leaves
     for i in 0..end {
         let mut answer = [0u8; CALL_BYTES];
         left = one_call(left, journal, checks, decode_at(calls, i), &mut answer);
