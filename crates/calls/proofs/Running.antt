@@ -2,7 +2,6 @@
 -- Assumes nothing.
 use Prim.Native.Nat.{ℕ, zero, suc, ◌+◌, ◌-◌, ◌*◌, ◌≤◌, ◌<◌}
 use mathlib.Core.Path.{◌≡◌, refl, sym, ap, ◌∙◌}
-use mathlib.Core.Bool.{Bool, false}
 use mathlib.Core.List.{List, ◌++◌}
 use native.Mathlib.Nat.{sub-eq-zero_of_le}
 use native.Mathlib.Numerals.{add-one}
@@ -10,18 +9,10 @@ use native.Mathlib.Omega.{arith}
 use lib.ListN.{length}
 use Rattle.sudoku.specs.Tests.{listed}
 use Rattle.sudoku.proofs.Walks.{left_one}
-use Rattle.puzzle.specs.declared.Refusal.{Refusal}
-use Rattle.journal.specs.declared.Move.{Move}
 use Rattle.journal.specs.Bytes.{over}
 use Rattle.journal.proofs.Memory.{over_nil, over_join}
-use Rattle.board.specs.declared.Board.{Board}
-use Rattle.board.specs.declared.Answer.{Answer}
-use Rattle.board.specs.declared.Checked.{Checked}
-use Rattle.play.specs.Play.{play_of, undo_of, redo_of}
-use Rattle.play.specs.Check.{check_of}
-use Rattle.calls.specs.declared.Call.TheVariants.{Make, Undo, Redo, Check}
-use Rattle.calls.specs.Session.{Session, Said, Called, called, call_of}
-use Rattle.calls.specs.Encoded.{call_bytes, session, said, decode_at, run_one, left_by, said_to, answer_bytes, answers_bytes, Ran, ran, run_from}
+use Rattle.calls.specs.Session.{Session, Said}
+use Rattle.calls.specs.Encoded.{call_bytes, decode_at, run_one, left_by, said_to, answer_bytes, answers_bytes, Ran, ran, run_from}
 use Rattle.calls.specs.Code.Running.{answered_at, run_at}
 
 -- four bytes for each group

@@ -1,26 +1,26 @@
 -- The characters of a line laid one after the other, and what writing answers where none of 2 and 34 applies.
 -- Assumes nothing.
 use Prim.Native.Nat.{ℕ, ◌+◌, ◌-◌, ◌≤◌, ◌<◌}
-use mathlib.Core.Path.{◌≡◌, refl, sym, ap, ◌∙◌}
-use mathlib.Core.Bool.{true, false}
+use mathlib.Core.Path.{◌≡◌, sym, ap, ◌∙◌}
+use mathlib.Core.Bool.{true}
 use mathlib.Core.List.{List, [], ◌∷◌, ◌++◌}
 use native.Mathlib.Nat.{sub-eq-zero_of_le}
 use native.Mathlib.Numerals.{add-one}
-use borrow.Author.Tests.{eqb-false, lt-ltb, le-ltb}
+use borrow.Author.Tests.{le-ltb}
 use lib.Dec.{ltb}
 use lib.ListN.{length}
 use Rattle.sudoku.specs.Tests.{listed}
-use Rattle.sudoku.proofs.Walks.{not_is_true, not_is_false, left_one}
+use Rattle.sudoku.proofs.Walks.{not_is_false, left_one}
 use Rattle.sudoku.proofs.Listed.{length_listed}
 use Rattle.puzzle.specs.declared.Refusal.{Refusal}
 use Rattle.puzzle.specs.Refusals.{refusal, accepted, refused_if}
 use Rattle.puzzle.proofs.Accepted.{if_not}
-use Rattle.puzzle.proofs.Refusals.{refused_if_lem, or_else_by, or_else_past}
+use Rattle.puzzle.proofs.Refusals.{or_else_past}
 use Rattle.journal.specs.Bytes.{over}
 use Rattle.board.specs.declared.Board.{Board}
 use Rattle.board.specs.Board.{is_board}
 use Rattle.record.specs.Write.{wrote}
-use Rattle.record.proofs.Writing.{wrote_nothing, wrote_bytes}
+use Rattle.record.proofs.Writing.{wrote_bytes}
 use Rattle.lines.specs.Lines.{line_bytes, character_at, line_of, write_line_refusal, write_line_of}
 
 -- ---- characters, one after the other
