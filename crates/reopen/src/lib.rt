@@ -35,7 +35,7 @@ use record::scan::read_record;
 use record::write::{count_givens, move_length};
 use record::{CHECK_ITEM, GIVEN_ITEM};
 use sudoku::{CELLS, cell_of, in_range, on_grid};
-use undo::undo_in;
+use undo::take_back;
 
 // Why move `index` is refused, asked of a board's parts: 28 before 29.
 #[tactic(auto, unfolding(crate::specs::Code::Reopening::next_refusal, sudoku::specs::Tests::pick))]
@@ -101,70 +101,17 @@ fn replay(
     Ok(with_parts(board, digits, notes, solved, counts))
 }
 
-// Taking back n is one undo and then taking back n less one. The board's parts are lent, so that a step keeps
+// Taking back n is one undo and then taking back n less one. Board and journal are lent, so that a step keeps
 // nothing and the compiler makes a loop of it, which tests/c/stack.c holds; a slice or a struct handed on by value
 // would lie on the stack once for each step. No undo of a reopened record is refused, and its number is not asked.
-fn take_back_all<'a>(
-    n: usize,
-    digits: &mut [u8; 81],
-    given: &'a [u8; 81],
-    notes: &mut [u16; 81],
-    solution: &'a [u8; 81],
-    solved: &mut u8,
-    made: usize,
-    standing: &mut usize,
-    checks: usize,
-    journal: &&[u8],
-)
-    ensures { whole digits.new given.now notes.new solution.now solved.new made standing.new checks ≡ take_back_all n (whole digits.old given.now notes.old solution.now solved.old made standing.old checks) journal.now.now }
+fn take_back_all(n: usize, board: &mut Board, journal: &&[u8])
+    ensures { board.new ≡ take_back_all n board.old journal.now.now }
 {
     if n == 0 {
         return;
     }
-    undo_in(
-        digits, given, notes, solution, solved, made, standing, checks, journal,
-    );
-    take_back_all(
-        n - 1,
-        digits,
-        given,
-        notes,
-        solution,
-        solved,
-        made,
-        standing,
-        checks,
-        journal,
-    );
-}
-
-// The board with n moves taken back.
-fn taken_back(n: usize, board: Board, journal: &[u8]) -> Board
-    ensures { result ≡ take_back_all n board journal.now }
-{
-    let mut digits = board.digits;
-    let mut notes = board.notes;
-    let mut solved = board.solved;
-    let mut standing = board.standing;
-    let made = board.made;
-    let checks = board.checks;
-    take_back_all(
-        n,
-        &mut digits,
-        &board.given,
-        &mut notes,
-        &board.solution,
-        &mut solved,
-        made,
-        &mut standing,
-        checks,
-        &journal,
-    );
-    let counts = Counts {
-        made: made,
-        standing: standing,
-    };
-    with_parts(board, digits, notes, solved, counts)
+    take_back(board, journal);
+    take_back_all(n - 1, board, journal);
 }
 
 // How many cells were to play.
@@ -256,17 +203,11 @@ fn settle(
     if is_undone_solved(board.solved, undone) {
         return Err(ReopenError::UndoneWhenSolved);
     }
-    let back = taken_back(undone, board, journal);
-    read_checks(
-        bytes,
-        bytes.len() - CHECK_ITEM * count,
-        count,
-        &back,
-        checks,
-    )?;
-    let mut all = back;
-    all.checks = count;
-    Ok(all)
+    let mut back = board;
+    take_back_all(undone, &mut back, &journal);
+    read_checks(bytes, bytes.len() - CHECK_ITEM * count, count, &back, checks)?;
+    back.checks = count;
+    Ok(back)
 }
 
 // A record whose lent lengths are right, over memory of zeros.

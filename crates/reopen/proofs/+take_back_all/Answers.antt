@@ -4,7 +4,6 @@ use Prim.Native.Nat.{ℕ, suc, ◌-◌}
 use mathlib.Core.Path.{◌≡◌, sym, ap, ◌∙◌}
 use native.Mathlib.Omega.{arith}
 use Rattle.board.specs.declared.Board.{Board}
-use Rattle.board.specs.Board.{whole}
 use Rattle.record.specs.Reopen.{take_back_all}
 use Rattle.reopen.proofs.+take_back_all.Goals as goal
 
@@ -12,7 +11,7 @@ pub returns-then-n-eq0 : goal.returns-then-n-eq0
 unfolding take_back_all
 returns-then-n-eq0 t c =
     let a = c.args in
-    sym (ap (λ (n : ℕ). take_back_all n (whole a.digits.now a.given.now a.notes.now a.solution.now a.solved.now a.made a.standing.now a.checks) a.journal.now.now) c.if-n-eq0.true)
+    sym (ap (λ (n : ℕ). take_back_all n a.board.now a.journal.now.now) c.if-n-eq0.true)
 
 pub returns : goal.returns
 unfolding take_back_all
@@ -20,5 +19,5 @@ returns t c =
     let a = c.args in
     let one : suc (a.n - 1) ≡ a.n = omega arith in
     c.take_back_all.ensures
-    ∙ ap (λ (b : Board). take_back_all (a.n - 1) b a.journal.now.now) c.undo_in.ensures
-    ∙ ap (λ (n : ℕ). take_back_all n (whole a.digits.now a.given.now a.notes.now a.solution.now a.solved.now a.made a.standing.now a.checks) a.journal.now.now) one
+    ∙ ap (λ (b : Board). take_back_all (a.n - 1) b a.journal.now.now) c.take_back.ensures
+    ∙ ap (λ (n : ℕ). take_back_all n a.board.now a.journal.now.now) one
