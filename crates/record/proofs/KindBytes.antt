@@ -9,7 +9,7 @@ use mathlib.Core.Bool.{true, false}
 use mathlib.Core.List.{List, [], ◌∷◌}
 use native.Mathlib.Nat.{eq-or-lt_of_le, add-zero}
 use native.Mathlib.Omega.{arith}
-use borrow.Author.Tests.{eqb-true, eqb-false, ne_eqb}
+use borrow.Author.Tests.{eqb-true}
 use lib.Dec.{eqb}
 use lib.ListN.{length, drop, get_or, length-drop, drop_of_length-le, get_or-eq_default}
 use lib.Seq.{drop-cons, get_or-drop}
@@ -25,7 +25,7 @@ use Rattle.record.specs.declared.Item.TheVariants.{Given, Played, Undone, Check}
 use Rattle.record.specs.declared.Shape.{Shape}
 use Rattle.record.specs.Items.{encode, check_item}
 use Rattle.record.specs.Scan.{broken, take_item, by_kind, body2, body3, body5}
-use Rattle.record.specs.Code.Counting.{shape, shape_of, taken, read, read_of, move_at, asked_from, item_of}
+use Rattle.record.specs.Code.Counting.{shape_of, taken, read, read_of, move_at, asked_from, item_of}
 
 -- ---- cases over the kinds
 
@@ -69,29 +69,6 @@ other_kind k a1 a2 a3 a4 a5 a6 a7 other o =
     ∙ pick_false _ _ _ o.five
     ∙ pick_false _ _ _ o.six
     ∙ pick_false _ _ _ o.seven
-
--- ---- the shape of an item
-
-pub shape_mark : (k : ℕ) → 3 < k → k < 6 → shape Moves 3 ≡ shape_of k
-unfolding shape_of by_kind pick
-shape_mark k h u =
-    by_test (eqb k 4) (λ t. sym (ap shape_of (eqb-true k 4 t)))
-    (λ t. let n = eqb-false k 4 t in sym (ap shape_of {x = k} {y = 5} (omega (arith, n))))
-
-pub shape_past : (k : ℕ) → 6 ≤ k → (k ≡ 6 → ⊥) → (k ≡ 7 → ⊥) → None ≡ shape_of k
-unfolding shape_of
-shape_past k h n6 n7 =
-    sym
-    (other_kind k _ _ _ _ _ _ _ _
-    (record {
-      one = ne_eqb k 1 (λ e. omega arith);
-      two = ne_eqb k 2 (λ e. omega arith);
-      three = ne_eqb k 3 (λ e. omega arith);
-      four = ne_eqb k 4 (λ e. omega arith);
-      five = ne_eqb k 5 (λ e. omega arith);
-      six = ne_eqb k 6 n6;
-      seven = ne_eqb k 7 n7;
-    }))
 
 -- ---- an item that is cut short
 

@@ -20,7 +20,6 @@ use Rattle.puzzle.specs.Refusals.{refusal, accepted}
 use denote.Enum.Bare.{sameb}
 use Rattle.std.specs.Prelude.{Option, Some, None, Err}
 use Rattle.std.specs.Option.{ok_or}
-use Rattle.std.specs.Bool.{then_some}
 use Rattle.journal.specs.declared.Move.TheVariants.{Place, Erase, WriteMark, StrikeMark}
 use Rattle.journal.specs.Limits.{max_moves}
 use Rattle.journal.specs.Bytes.{two}
@@ -133,21 +132,6 @@ pub record Comes (s : Progress) (is : Items) (r : Refusal) (c : Scanned) : Type 
 -- ---- an item that stands where it may, or not
 
 -- the code's tests of how far it has come
-pub at_givens : (q : Phase) → sameb the_type q AmongGivens ≡ eqb (phase_number q) 0
-at_givens AmongGivens = refl
-at_givens AmongMoves = refl
-at_givens AmongChecks = refl
-
-pub at_checks : (q : Phase) → sameb the_type q AmongChecks ≡ eqb (phase_number q) 2
-at_checks AmongGivens = refl
-at_checks AmongMoves = refl
-at_checks AmongChecks = refl
-
-pub before_checks : (q : Phase) → not (sameb the_type q AmongChecks) ≡ leb (phase_number q) 1
-before_checks AmongGivens = refl
-before_checks AmongMoves = refl
-before_checks AmongChecks = refl
-
 pub is_after : (q : Phase) → true ≡ not (not (sameb the_type q AmongChecks)) → eqb (phase_number q) 2 ≡ true
 is_after AmongGivens e = absurd cc
 is_after AmongMoves e = absurd cc
@@ -162,11 +146,6 @@ is_before AmongChecks e = absurd cc
 pub ok_or_none : {T E : Type 0} (o : Option T) (e x : E) → Err x ≡ ok_or o e → (o ≡ None) × (x ≡ e)
 ok_or_none None e x p = (refl, cc)
 ok_or_none (Some y) e x p = absurd cc
-
-pub then_pick : {A : Type 0} (t u : Bool) (x : A) (o : Option A) → o ≡ then_some t x → t ≡ u → o ≡ pick u (Some x) None
-unfolding pick
-then_pick t true x o e q = rw q at e
-then_pick t false x o e q = rw q at e
 
 picked : {A : Type 0} (t : Bool) (x y : A) → pick t (Some x) None ≡ Some y → (t ≡ true) × (x ≡ y)
 unfolding pick

@@ -11,6 +11,7 @@ use journal::{Asked, Move, Slot};
 use puzzle::byte_at;
 
 // What the kind byte of an item decides; nothing where no item has the kind.
+#[tactic(auto, unfolding(crate::specs::Code::Counting::shape_of, crate::specs::Scan::by_kind, sudoku::specs::Tests::pick))]
 pub fn shape(kind: u8) -> Option<Shape>
     ensures { result ≡ shape_of kind }
 {
@@ -40,6 +41,7 @@ pub fn shape(kind: u8) -> Option<Shape>
 }
 
 // Two bytes, low first, as a number.
+#[tactic(auto, unfolding(journal::specs::Bytes::two))]
 fn two_at(bytes: &[u8], at: usize) -> usize
     requires { at ≤ length bytes.now + 1 }
     ensures { result ≡ two (get_or bytes.now at 0) (get_or bytes.now (at + 1) 0) }
@@ -92,6 +94,7 @@ fn given_at(bytes: &[u8], at: usize) -> Item
 impl From<Asked> for Item {
     ghost from_gives = { λ c i. i ≡ check_item c };
 
+    #[tactic(auto, unfolding(crate::specs::Items::check_item))]
     fn from(c: Asked) -> Item {
         let Asked {
             standing,
@@ -109,6 +112,7 @@ impl From<Asked> for Item {
 }
 
 // The item of a group whose kind byte stands at an offset.
+#[tactic(auto, unfolding(crate::specs::Code::Counting::item_of))]
 fn item_at(bytes: &[u8], at: usize, group: Group) -> Item
     requires { at < length bytes.now }
     ensures { result ≡ item_of bytes.now at group }

@@ -18,6 +18,7 @@ use puzzle::vouch::vouch;
 use puzzle::{Layout, Refusal};
 
 // One item more, counted where it may stand: givens, moves, the undone count once, checks.
+#[tactic(auto, unfolding(crate::specs::Code::Counting::item_step, crate::specs::Code::Counting::given_step, crate::specs::Code::Counting::move_step, crate::specs::Code::Counting::undone_step, crate::specs::Code::Counting::check_step, sudoku::specs::Tests::pick, sudoku::specs::Tests::either))]
 fn counted(state: Progress, read: Read) -> Option<Progress>
     requires { Room state }
     ensures { result ≡ item_step state read.item read.next }

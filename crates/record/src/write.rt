@@ -42,6 +42,7 @@ pub fn count_givens(given: &[u8; 81]) -> usize
 }
 
 // How many bytes a move's item has.
+#[tactic(auto, unfolding(crate::specs::Items::encode))]
 pub fn move_length(m: Move) -> usize
     ensures { (result ≡ length (encode (Played m))) × (result ≤ 4) }
 {
@@ -62,6 +63,7 @@ fn lay(output: &mut [u8], at: usize, bytes: &[u8]) -> usize
 }
 
 // The item of a cell's given; nothing where it is none.
+#[tactic(auto, unfolding(crate::specs::Code::Laying::given_bytes, sudoku::specs::Tests::pick, sudoku::specs::Grid::row_of))]
 fn lay_given(board: &Board, cell: usize, output: &mut [u8], at: usize) -> usize
     requires { (cell ≤ 81) × (at + length (given_bytes board.now.given board.now.digits cell) ≤ length output.old) }
     ensures { (result ≡ at + length (given_bytes board.now.given board.now.digits cell)) × (output.new ≡ over output.old at (given_bytes board.now.given board.now.digits cell)) }
@@ -91,6 +93,7 @@ fn lay_givens(board: &Board, output: &mut [u8]) -> usize
 }
 
 // The item of a move.
+#[tactic(auto, unfolding(crate::specs::Items::encode))]
 fn lay_move(m: Move, output: &mut [u8], at: usize) -> usize
     requires { at + length (encode (Played m)) ≤ length output.old }
     ensures { (result ≡ at + length (encode (Played m))) × (output.new ≡ over output.old at (encode (Played m))) }
@@ -112,6 +115,7 @@ fn lay_move(m: Move, output: &mut [u8], at: usize) -> usize
 }
 
 // The item of a check.
+#[tactic(auto, unfolding(crate::specs::Items::encode, crate::specs::Items::check_item, journal::specs::Bytes::low, journal::specs::Bytes::second))]
 fn lay_check(asked: Asked, output: &mut [u8], at: usize) -> usize
     requires { at + 6 ≤ length output.old }
     ensures { (result ≡ at + 6) × (output.new ≡ over output.old at (encode (check_item asked))) }
