@@ -4,7 +4,7 @@ ghost use Rattle.std.specs.Prelude.{◌≡◌, ◌≤◌};
 ghost use Rattle.texts.specs.Grids.{is_space, so_far, with_cell, with_character, cells_of, grid_of};
 
 use crate::{Cells, CellsError};
-use puzzle::text::cell_value;
+use puzzle::text::{cell_value, value_of};
 use std::cmp::Ordering;
 use sudoku::CELLS;
 
@@ -38,10 +38,9 @@ pub fn grid(text: &[u8]) -> Result<[u8; 81], CellsError>
         if is_space(*byte) {
             continue;
         }
-        let value = cell_value(*byte);
-        if value > 9 {
+        let Some(value) = value_of(*byte) else {
             return Err(CellsError::Wrong { character: i + 1 });
-        }
+        };
         count = put(&mut cells, count, value);
     }
     match count.cmp(&CELLS) {
