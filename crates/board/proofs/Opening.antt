@@ -1,14 +1,14 @@
 -- The laws of opening: the puzzle's tests, which answer alike whatever the memory holds, and then memory of zeros.
 -- Assumes nothing.
 use Prim.Native.Nat.{ℕ, ◌/◌, ◌%◌}
-use mathlib.Core.Path.{◌≡◌, refl, sym, ap, ◌∙◌}
+use mathlib.Core.Path.{◌≡◌, refl}
 use mathlib.Core.Bool.{Bool, true, false}
 use mathlib.Core.List.{List}
 use borrow.Author.Tests.{eq-eqb, ne_eqb, eqb-true}
 use lib.Dec.{eqb}
 use lib.ListN.{length, replicate}
 use Rattle.sudoku.specs.Tests.{pick, both}
-use Rattle.sudoku.proofs.Walks.{pick_true, pick_false, both_left, both_right}
+use Rattle.sudoku.proofs.Walks.{both_left, both_right}
 use Rattle.puzzle.specs.declared.Refusal.{Refusal}
 use Rattle.puzzle.specs.declared.Given.{Given}
 use Rattle.puzzle.specs.Refusals.{accepted, is_accepted}
@@ -16,7 +16,10 @@ use Rattle.puzzle.specs.declared.Layout.TheVariants.{Triples}
 use Rattle.puzzle.specs.Givens.{triples}
 use Rattle.puzzle.specs.Code.GivenBytes.{givens_in}
 use Rattle.puzzle.specs.Vouch.{well_posed}
+use Rattle.puzzle.specs.declared.error.WellPosedError.{WellPosedError}
+use Rattle.puzzle.specs.Errors.{well_posed_refusal}
 use Rattle.puzzle.proofs.GivenBytes.{triples_in}
+use Rattle.puzzle.proofs.Refusals.{refuses}
 use Rattle.journal.specs.Limits.{journal_bytes, check_memory}
 use Rattle.board.specs.declared.Board.{Board}
 use Rattle.board.specs.Board.{fresh, zero_board}
@@ -55,30 +58,17 @@ module _ (givens solution journal checks : List ℕ) (l : lent_lengths solution 
   right_lent h =
       rw (journal_length, check_length, l, eq-eqb (length givens % 3) 0 h) (zeroed (triples givens) solution)
 
--- ---- the puzzle's tests
+-- ---- the puzzle's tests, of the givens as they stand in the bytes, three bytes each
 
-module _ (gs : List Given) (solution : List ℕ) where
-  posed_fresh : is_accepted (well_posed gs solution) ≡ true → posed gs solution ≡ answer accepted (fresh gs solution)
-  unfolding posed
-  posed_fresh h = pick_true _ _ _ h
+module _ (givens solution : List ℕ) where
+  abbrev here : List Given
+  here = givens_in Triples givens (length givens / 3)
 
-  posed_refused : is_accepted (well_posed gs solution) ≡ false → posed gs solution ≡ answer (well_posed gs solution) zero_board
-  unfolding posed
-  posed_refused h = pick_false _ _ _ h
+  pub posed_fresh : accepted ≡ well_posed here solution → answer accepted (fresh here solution) ≡ posed (triples givens) solution
+  unfolding posed is_accepted pick
+  posed_fresh e = rw (triples_in givens, ← e)
 
--- the givens as they stand in the bytes, three bytes each
-module _ (givens solution : List ℕ) (r : Refusal) (e : r ≡ well_posed (givens_in Triples givens (length givens / 3)) solution) where
-  outcome : well_posed (triples givens) solution ≡ r
-  outcome = ap (λ gs. well_posed gs solution) (triples_in givens) ∙ sym e
-
-  pub opened_refused : (r.number ≡ 0 → ⊥) → answer r zero_board ≡ posed (triples givens) solution
-  unfolding is_accepted
-  opened_refused h =
-      sym (posed_refused (triples givens) solution (ne_eqb _ 0 (λ z. h (ap (λ x. x.number) (sym outcome) ∙ z))) ∙ ap (λ x. answer x zero_board) outcome)
-
-  pub opened_fresh_lem : r.number ≡ 0
-      → answer accepted (fresh (givens_in Triples givens (length givens / 3)) solution) ≡ posed (triples givens) solution
-  unfolding is_accepted
-  opened_fresh_lem h =
-      ap (λ gs. answer accepted (fresh gs solution)) (sym (triples_in givens))
-      ∙ sym (posed_fresh (triples givens) solution (eq-eqb _ 0 (ap (λ x. x.number) outcome ∙ h)))
+  pub posed_refused : (e : WellPosedError) → well_posed_refusal e ≡ well_posed here solution
+      → answer (well_posed_refusal e) zero_board ≡ posed (triples givens) solution
+  unfolding posed is_accepted pick
+  posed_refused e p = rw (triples_in givens, ← p, ne_eqb _ 0 (refuses e))

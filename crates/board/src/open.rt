@@ -15,8 +15,8 @@ use crate::{Answer, Board};
 use journal::{CHECK_MEMORY, JOURNAL_BYTES};
 use puzzle::Layout;
 use puzzle::answer::accepted;
-use puzzle::given_bytes::{mark_givens, put_givens};
-use puzzle::vouch::{flat, rows_of, well_posed};
+use puzzle::given_bytes::GivenBytes;
+use puzzle::vouch::{flat, rows_of};
 use sudoku::CELLS;
 
 // Zero in every byte.
@@ -43,23 +43,25 @@ pub fn zero_board() -> Board
     }
 }
 
-// The fresh board of givens and their solution: no notes, no moves, no checks.
-#[tactic(auto, unfolding(crate::specs::Board::fresh, crate::specs::Board::board_of, journal::specs::State::opening))]
-pub fn fresh(bytes: &[u8], layout: Layout, count: usize, rows: [[u8; 9]; 9]) -> Board
-    ensures { result ≡ fresh_of (givens_in layout bytes.now count) (flat_of rows) }
-{
-    let digits = put_givens(bytes, layout, count);
-    let given = mark_givens(bytes, layout, count);
-    let solution = flat(rows);
-    Board {
-        digits,
-        given,
-        notes: [0u16; 81],
-        solution,
-        solved: 0,
-        made: 0,
-        standing: 0,
-        checks: 0,
+impl Board {
+    // The fresh board of givens and their solution: no notes, no moves, no checks.
+    #[tactic(auto, unfolding(crate::specs::Board::fresh, crate::specs::Board::board_of, journal::specs::State::opening))]
+    pub fn fresh(givens: GivenBytes, rows: [[u8; 9]; 9]) -> Board
+        ensures { result ≡ fresh_of (givens_in givens.entry.layout givens.entry.bytes.now givens.entry.count) (flat_of rows) }
+    {
+        let digits = givens.digits();
+        let given = givens.flags();
+        let solution = flat(rows);
+        Board {
+            digits,
+            given,
+            notes: [0u16; 81],
+            solution,
+            solved: 0,
+            made: 0,
+            standing: 0,
+            checks: 0,
+        }
     }
 }
 
@@ -86,18 +88,21 @@ fn opened(givens: &[u8], solution: &[u8]) -> Answer
     requires { length solution.now ≡ 81 }
     ensures { result ≡ posed (triples givens.now) solution.now }
 {
-    let count = givens.len() / 3;
+    let givens = GivenBytes {
+        bytes: givens,
+        layout: Layout::Triples,
+        count: givens.len() / 3,
+    };
     let rows = rows_of(solution);
-    let r = well_posed(givens, Layout::Triples, count, rows);
-    if r.number != 0 {
-        return Answer {
-            refusal: r,
+    match givens.well_posed(rows) {
+        Ok(()) => Answer {
+            refusal: accepted(),
+            board: Board::fresh(givens, rows),
+        },
+        Err(e) => Answer {
+            refusal: e.into(),
             board: zero_board(),
-        };
-    }
-    Answer {
-        refusal: accepted(),
-        board: fresh(givens, Layout::Triples, count, rows),
+        },
     }
 }
 

@@ -18,7 +18,7 @@ ghost use Rattle.record.specs.Reopen.{replay as replay_of, take_back_all, to_pla
 ghost use Rattle.reopen.specs.Code.Reopening.{moves_at, asks_at, next_refusal, asked_number, settled_by, reopened_of, Reopens};
 
 use board::error::PlayError;
-use board::open::{clear, fresh, lent_lengths, wrong_length, zero_board};
+use board::open::{clear, lent_lengths, wrong_length, zero_board};
 use board::{Answer, Board};
 use journal::checks::{is_right, store_check};
 use journal::slots::is_given;
@@ -27,6 +27,7 @@ use journal::{Asked, Counts, Move};
 use play::moves::make_in;
 use play::tests::move_test;
 use puzzle::answer::accepted;
+use puzzle::given_bytes::GivenBytes;
 use puzzle::vouch::rows_of;
 use puzzle::{Layout, Refusal};
 use record::error::ReopenError;
@@ -224,7 +225,12 @@ fn reopened(
 {
     let rows = rows_of(solution);
     let s = read_record(bytes, rows)?;
-    let board = fresh(bytes, Layout::Items, s.givens, rows);
+    let givens = GivenBytes {
+        bytes,
+        layout: Layout::Items,
+        count: s.givens,
+    };
+    let board = Board::fresh(givens, rows);
     let last = replay(bytes, GIVEN_ITEM * s.givens, s.moves, board, journal)?;
     let settled = settle(bytes, s.undone, s.checks, last, journal, checks)?;
     Ok(settled)

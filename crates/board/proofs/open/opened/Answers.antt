@@ -2,17 +2,17 @@
 -- layout, and the nine rows, laid out again, are the solution of 81 bytes.
 -- Assumes nothing.
 use Rattle.puzzle.proofs.Rows.{laid_out}
-use Rattle.board.proofs.Opening.{opened_fresh_lem, opened_refused}
+use Rattle.board.proofs.Opening.{posed_fresh, posed_refused}
 use Rattle.board.proofs.open.opened.Goals as goal
 
-pub returns-then-r-ne0 : goal.returns-then-r-ne0
-returns-then-r-ne0 c =
+pub returns-in-Ok : goal.returns-in-Ok
+returns-in-Ok c =
     let a = c.args in
-    rw c.zero_board.ensures (opened_refused a.givens.now a.solution.now c.well_posed-r.result
-    (rw (laid_out c.rows_of-rows.result c.args.solution.now c.rows_of-rows.ensures c.requires) at c.well_posed-r.ensures) c.if-r-ne0.true)
+    let laid = laid_out c.rows_of-rows.result a.solution.now c.rows_of-rows.ensures c.requires in
+    rw (c.accepted.ensures, c.fresh.ensures, laid) (posed_fresh a.givens.now a.solution.now (rw laid at c.in-Ok.ensures))
 
-pub returns : goal.returns
-returns c =
+pub returns-in-Err : goal.returns-in-Err
+returns-in-Err c =
     let a = c.args in
-    rw (c.accepted.ensures, c.fresh.ensures, (laid_out c.rows_of-rows.result c.args.solution.now c.rows_of-rows.ensures c.requires)) (opened_fresh_lem a.givens.now a.solution.now c.well_posed-r.result
-    (rw (laid_out c.rows_of-rows.result c.args.solution.now c.rows_of-rows.ensures c.requires) at c.well_posed-r.ensures) c.if-r-ne0.false)
+    let laid = laid_out c.rows_of-rows.result a.solution.now c.rows_of-rows.ensures c.requires in
+    rw (c.into.ensures, c.zero_board.ensures) (posed_refused a.givens.now a.solution.now c.in-Err.e (rw laid at c.in-Err.ensures))
