@@ -9,6 +9,7 @@ use borrow.Author.Tests.{eqb-true, eqb-false, eq-eqb, ne_eqb, le-leb, leb-true}
 use lib.Dec.{leb}
 use lib.ListN.{length, drop, replicate, length-append}
 use lib.Seq.{take_at}
+use Rattle.std.specs.Prelude.{Option, Some, None}
 use Rattle.sudoku.proofs.Walks.{by_test, pick_true, pick_false, both_true}
 use Rattle.puzzle.specs.Refusals.{is_accepted}
 use Rattle.puzzle.specs.Givens.{triple_bytes}
@@ -23,7 +24,7 @@ use Rattle.lines.specs.Lines.{givens_room, line_refusal, values_of, line_cells, 
 use Rattle.lines.proofs.Reading.{not_read, is_read}
 use Rattle.texts.specs.Parts.{part_of}
 use Rattle.files.specs.Disk.{Content, cells_in}
-use Rattle.files.specs.Load.{left, nothing_loaded, stays, loaded_board, takes_place, load_file, load_of, open_line, load_line}
+use Rattle.files.specs.Load.{left, nothing_loaded, stays, loaded_board, takes_place, load_file, load_solved, load_of, open_line, load_line}
 
 -- what was opened in memory apart
 
@@ -113,14 +114,16 @@ module _ (named atHand journal checks : List ℕ) (file answers : Content) where
   unfolding load_of
   by_hand e = sym (pick_true _ _ _ (eq-eqb (length named) 0 e))
 
-  pub no_solution : (length named ≡ 0 → ⊥) → ((cells_in answers).count ≡ 81 → ⊥) → stays journal checks ≡ load_of named file answers atHand journal checks
+  by_cells : (length named ≡ 0 → ⊥) → (found : Option (List ℕ)) → cells_in answers ≡ found → load_solved file found journal checks ≡ load_of named file answers atHand journal checks
   unfolding load_of
-  no_solution n m =
-      sym
-      (pick_false _ _ _ (ne_eqb (length named) 0 n) ∙ pick_false _ _ _ (ne_eqb (cells_in answers).count 81 m))
+  by_cells n found e =
+      ap (λ (x : Option (List ℕ)). load_solved file x journal checks) (sym e)
+      ∙ sym (pick_false _ _ _ (ne_eqb (length named) 0 n))
 
-  pub by_file : (length named ≡ 0 → ⊥) → (cells_in answers).count ≡ 81 → load_file file (cells_in answers).cells journal checks ≡ load_of named file answers atHand journal checks
-  unfolding load_of
-  by_file n e =
-      sym
-      (pick_false _ _ _ (ne_eqb (length named) 0 n) ∙ pick_true _ _ _ (eq-eqb (cells_in answers).count 81 e))
+  pub no_solution : (length named ≡ 0 → ⊥) → cells_in answers ≡ None → stays journal checks ≡ load_of named file answers atHand journal checks
+  unfolding load_solved
+  no_solution n e = by_cells n None e
+
+  pub by_file : (length named ≡ 0 → ⊥) → (right : List ℕ) → cells_in answers ≡ Some right → load_file file right journal checks ≡ load_of named file answers atHand journal checks
+  unfolding load_solved
+  by_file n right e = by_cells n (Some right) e

@@ -2,17 +2,15 @@
 -- what a mailed line opens with the line of its solution. And what loading leaves: the board that was opened with its
 -- memory, or the lent memory as it was.
 -- Assumes nothing.
-use Rattle.std.specs.Prelude.{ℕ, ◌≡◌, Bool, true, false, List, leb, eqb, length, get_or}
+use Rattle.std.specs.Prelude.{ℕ, ◌≡◌, Bool, List, Option, Some, None, leb, eqb, length, get_or}
 use Rattle.sudoku.specs.Tests.{pick, both, either}
 use Rattle.puzzle.specs.Refusals.{is_accepted}
 use Rattle.puzzle.specs.Givens.{triple_bytes}
 use Rattle.board.specs.declared.Board.{Board}
-use Rattle.board.specs.Board.{zero_board}
 use Rattle.board.specs.Open.{Opened, no_moves, no_checks, open_of}
 use Rattle.record.specs.Reopen.{reopen_of}
 use Rattle.lines.specs.Lines.{line_refusal, values_of, line_givens, digits_bytes}
 use Rattle.texts.specs.Grids.{cells_of}
-use Rattle.files.specs.declared.Loaded.{Loaded}
 use Rattle.files.specs.Disk.{Content, unread, holding, is_whole, cells_in}
 
 -- a record's first byte is the kind of its first item, 1 to 7; a text never starts so
@@ -27,24 +25,24 @@ open_bytes bytes solution journal checks =
 unfoldable pub is_openable : List ℕ → Bool
 is_openable bytes = either (is_record bytes) (is_whole (cells_of bytes))
 
--- what loading answers, and the lent memory afterwards
+-- what loading answers, a board or none, and the lent memory afterwards
 pub record Left : Type 0 where
-  pub loaded : Loaded
+  pub loaded : Option Board
   pub journal : List ℕ
   pub checks : List ℕ
 
-abbrev pub left : Loaded → List ℕ → List ℕ → Left
+abbrev pub left : Option Board → List ℕ → List ℕ → Left
 left loaded journal checks = record { loaded = loaded; journal = journal; checks = checks }
 
 -- nothing is opened: no board, and the lent memory stays as it was
-unfoldable pub nothing_loaded : Loaded
-nothing_loaded = record { good = false; board = zero_board }
+abbrev pub nothing_loaded : Option Board
+nothing_loaded = None
 
 unfoldable pub stays : List ℕ → List ℕ → Left
 stays journal checks = left nothing_loaded journal checks
 
-abbrev pub loaded_board : Board → Loaded
-loaded_board b = record { good = true; board = b }
+abbrev pub loaded_board : Board → Option Board
+loaded_board b = Some b
 
 -- what was opened in memory apart takes the place of what was lent; where it was refused, that stays
 unfoldable pub takes_place : Opened → List ℕ → List ℕ → Left
@@ -65,11 +63,15 @@ unfoldable pub load_file : Content → List ℕ → List ℕ → List ℕ → Le
 load_file unread solution journal checks = stays journal checks
 load_file (holding bytes) solution journal checks = load_bytes bytes solution journal checks
 
+-- the same with the cells of a file for the solution; nothing is opened where there are none
+unfoldable pub load_solved : Content → Option (List ℕ) → List ℕ → List ℕ → Left
+load_solved file None journal checks = stays journal checks
+load_solved file (Some solution) journal checks = load_file file solution journal checks
+
 -- the same with the solution at hand where no file is named for one, else with the cells of that file, if it is whole
 unfoldable pub load_of : List ℕ → Content → Content → List ℕ → List ℕ → List ℕ → Left
 load_of named file answers atHand journal checks =
-    pick (eqb (length named) 0) (load_file file atHand journal checks)
-    (pick (eqb (cells_in answers).count 81) (load_file file (cells_in answers).cells journal checks) (stays journal checks))
+    pick (eqb (length named) 0) (load_file file atHand journal checks) (load_solved file (cells_in answers) journal checks)
 
 -- what is left is what some file opens with a solution
 pub record FileLoaded (solution journal checks : List ℕ) (after : Left) : Type 0 where

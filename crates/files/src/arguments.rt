@@ -1,18 +1,25 @@
 // The words of the command line, as bytes of any kind.
-ghost use Rattle.std.specs.Prelude.{◌≤◌};
+ghost use Rattle.std.specs.Prelude.{◌≤◌, IfSome, length};
 ghost use Rattle.files.specs.Disk.{path_max};
 
 use crate::disk::PATH_MAX;
 use std::env::{Env, FillError};
 
-// Word i, laid at the start of the memory: how long it is, 0 where there is none or where it finds no room.
+// Word i, laid at the start of the memory; none where there is none, where it is empty or where it finds no room.
+pub fn word<'a, R: Env>(rt: &R, i: usize, memory: &'a mut [u8; PATH_MAX]) -> Option<&'a [u8]>
+    ensures { IfSome result (λ word. length word.now ≤ path_max) }
+{
+    match rt.arg(i, memory) {
+        Ok(0) | Err(_) => None,
+        Ok(length) => Some(&memory[..length]),
+    }
+}
+
+// Until its callers have moved to `word`: how long word i is, 0 where there is none or where it finds no room.
 pub fn argument<R: Env>(rt: &R, i: usize, memory: &mut [u8; PATH_MAX]) -> usize
     ensures { result ≤ path_max }
 {
-    match rt.arg(i, memory) {
-        Ok(length) => length,
-        Err(_) => 0,
-    }
+    rt.arg(i, memory).unwrap_or(0)
 }
 
 // How many words there are, the program's name among them.

@@ -1,65 +1,50 @@
 // Files, read and written whole.
-ghost use Rattle.std.specs.Prelude.{◌≡◌, false, ◌≤◌, ◌<◌, length};
-ghost use Rattle.texts.specs.Parts.{part_of};
-ghost use Rattle.texts.specs.Grids.{no_cells};
-ghost use Rattle.files.specs.Disk.{file_bytes, path_max, name_bytes, ReadInto, is_whole, whole_cells, CellsRead};
+ghost use Rattle.std.specs.Prelude.{◌≡◌, false, ◌≤◌, ◌<◌, IfOk, IfSome, length};
+ghost use Rattle.files.specs.Disk.{name_bytes, ReadInto, CellsRead, whole_cells};
 
-use crate::Got;
-use print::{number, say, shown};
+use print::{Printable, show};
+use std::fmt::InlineText;
 use std::fs::{OpenFile, OpenOptions, Permissions};
 use std::io::{Error, ErrorKind, Read, Write};
 use std::os::unix::fs::{OpenOptionsExt, PermissionsExt};
 use std::rt::Files;
 use std::{fs, io, str};
-use sudoku::CELLS;
-use texts::grids::cells;
-use texts::{Cells, part};
+use texts::CellsError;
+use texts::grids::grid;
 
 // Bytes of the buffer that a file is read into: more than any puzzle or record has.
 pub const FILE_BYTES: usize = 8192;
 // Bytes of the memory that a name is held in: more than any name has that the system takes.
 pub const PATH_MAX: usize = 4096;
-// Bytes behind the path in the new file's name: a full stop and a number.
-const NUMBERED: usize = 7;
+// The most bytes of a name under which something is saved.
+const NAME_BYTES: usize = 4000;
 // How many numbers are tried. One is taken where a save was cut off before the new file got its name.
 const NUMBERS: usize = 1000000;
 
 // Why a call failed, in plain words.
-fn reason(error: &Error) {
+fn reason(error: &Error) -> &'static str {
     match error.kind() {
-        ErrorKind::NotFound => say(b"there is no such file or folder"),
-        ErrorKind::PermissionDenied => say(b"it is not allowed"),
-        ErrorKind::IsADirectory => say(b"it is a folder"),
-        ErrorKind::NotADirectory => say(b"a part of its path is no folder"),
-        ErrorKind::StorageFull => say(b"the disk is full"),
-        ErrorKind::ReadOnlyFilesystem => say(b"the disk is read-only"),
-        ErrorKind::InvalidInput => say(b"that is no name of a plain file"),
-        ErrorKind::InvalidFilename => say(b"the name is too long"),
-        ErrorKind::InvalidData => say(b"the name is not UTF-8"),
-        _ => say(b"the system refuses"),
+        ErrorKind::NotFound => "there is no such file or folder",
+        ErrorKind::PermissionDenied => "it is not allowed",
+        ErrorKind::IsADirectory => "it is a folder",
+        ErrorKind::NotADirectory => "a part of its path is no folder",
+        ErrorKind::StorageFull => "the disk is full",
+        ErrorKind::ReadOnlyFilesystem => "the disk is read-only",
+        ErrorKind::InvalidInput => "that is no name of a plain file",
+        ErrorKind::InvalidFilename => "the name is too long",
+        ErrorKind::InvalidData => "the name is not UTF-8",
+        _ => "the system refuses",
     }
 }
 
 // A file that could not be read or written, and why.
-fn failed(what: &[u8], path: &[u8], error: &Error) {
-    say(what);
-    shown(path);
-    say(b": ");
-    reason(error);
-    say(b"\n");
+fn failed(what: &'static str, path: &[u8], why: &'static str) {
+    show(format_args!("cannot {what} {}: {why}\n", Printable(path)));
 }
 
 // A name as the system takes it: text in UTF-8, whatever bytes were given.
 fn name_of(path: &[u8]) -> io::Result<&str> {
-    match str::from_utf8(path) {
-        Ok(name) => Ok(name),
-        Err(_) => Err(Error::from(ErrorKind::InvalidData)),
-    }
-}
-
-// Opens the file of a name.
-fn opened<R: Files>(rt: &R, how: &OpenOptions, path: &[u8]) -> io::Result<R::File> {
-    how.open(rt, name_of(path)?)
+    str::from_utf8(path).map_err(|_| Error::from(ErrorKind::InvalidData))
 }
 
 // Why a file cannot be read: of a name that is no text there is none that could be.
@@ -70,150 +55,90 @@ fn missing(error: Error) -> Error {
     }
 }
 
-// Reads behind the bytes that are there.
-fn read_some<F: Read>(file: &mut F, buffer: &mut [u8], at: usize) -> io::Result<usize> {
-    if at < buffer.len() {
-        return file.read(&mut buffer[at..]);
-    }
-    Ok(0)
+// Opens the file of a name.
+fn opened<R: Files>(rt: &R, how: &OpenOptions, path: &[u8]) -> io::Result<R::File> {
+    how.open(rt, name_of(path)?)
 }
 
-// Where the bytes end that were read.
-fn advanced(buffer: &[u8], at: usize, more: usize) -> usize
-    ensures { result ≤ length buffer.now }
+// Reads to the end of the file, or until the buffer is full; answers how many bytes there are.
+fn read_all<F: Read>(file: &mut F, buffer: &mut [u8; FILE_BYTES]) -> io::Result<usize>
+    ensures { IfOk result (λ n. n ≤ 8192) }
 {
-    if at > buffer.len() {
-        return buffer.len();
-    }
-    if more > buffer.len() - at {
-        return buffer.len();
-    }
-    at + more
-}
-
-// Reads to the end of the file, or until the buffer is full. Every turn but the last brings a byte.
-fn read_all<F: Read>(path: &[u8], file: &mut F, buffer: &mut [u8; FILE_BYTES]) -> Got
-    ensures { (result.length ≤ file_bytes) × (result.good ≡ false → result.length ≡ 0) }
-{
-    let mut at: usize = 0;
-    let mut turns: usize = FILE_BYTES + 1;
-    while turns > 0 {
-        let got = match read_some(file, buffer, at) {
-            Ok(got) => got,
-            Err(error) => {
-                failed(b"cannot read ", path, &error);
-                return Got {
-                    good: false,
-                    length: 0,
-                };
-            }
-        };
+    let mut at = 0;
+    while at < FILE_BYTES {
+        let got = file.read(&mut buffer[at..])?;
         if got == 0 {
-            return Got {
-                good: true,
-                length: at,
-            };
+            break;
         }
-        at = advanced(buffer, at, got);
-        turns -= 1;
+        at += got;
     }
-    Got {
-        good: true,
-        length: at,
-    }
+    Ok(at)
+}
+
+// The bytes of a file, as many as the buffer takes.
+fn bytes_of<'a, R: Files>(
+    rt: &R,
+    path: &[u8],
+    buffer: &'a mut [u8; FILE_BYTES],
+) -> io::Result<&'a [u8]> {
+    let mut how = OpenOptions::new();
+    how.read(true);
+    let mut file = opened(rt, &how, path).map_err(missing)?;
+    let length = read_all(&mut file, buffer)?;
+    Ok(&buffer[..length])
 }
 
 // Reads a file whole. One that fills the buffer is longer than any puzzle or record.
-pub fn read<R: Files>(rt: &R, path: &[u8], buffer: &mut [u8; FILE_BYTES]) -> Got
-    ensures { ReadInto result }
+pub fn read<'a, R: Files>(rt: &R, path: &[u8], buffer: &'a mut [u8; FILE_BYTES]) -> Option<&'a [u8]>
+    ensures { IfSome result (λ bytes. ReadInto bytes.now) }
 {
-    let nothing = Got {
-        good: false,
-        length: 0,
-    };
-    let mut how = OpenOptions::new();
-    how.read(true);
-    let mut file = match opened(rt, &how, path) {
-        Ok(file) => file,
-        Err(error) => {
-            failed(b"cannot read ", path, &missing(error));
-            return nothing;
+    match bytes_of(rt, path, buffer) {
+        Ok(bytes) if bytes.len() < FILE_BYTES => Some(bytes),
+        Ok(_) => {
+            failed("read", path, "it is too long to be a puzzle or a record");
+            None
         }
-    };
-    let got = read_all(path, &mut file, buffer);
-    if got.length >= FILE_BYTES {
-        say(b"cannot read ");
-        shown(path);
-        say(b": it is too long to be a puzzle or a record\n");
-        return nothing;
+        Err(error) => {
+            failed("read", path, reason(&error));
+            None
+        }
     }
-    got
 }
 
 // Says what is wrong with a text that is not 81 cells.
-fn complain(path: &[u8], found: Cells) {
-    if found.wrong != 0 {
-        shown(path);
-        say(b": character ");
-        number(found.wrong);
-        say(b" is no cell: 1 to 9, or a point or 0 for an empty one\n");
-        return;
-    }
-    if found.count > CELLS {
-        shown(path);
-        say(b": it has more than 81 cells\n");
-        return;
-    }
-    if found.count < CELLS {
-        shown(path);
-        say(b": it has ");
-        number(found.count);
-        say(b" cells, and not 81\n");
+pub fn complain(path: &[u8], error: CellsError) {
+    let path = Printable(path);
+    match error {
+        CellsError::Wrong { character } => show(format_args!(
+            "{path}: character {character} is no cell: 1 to 9, or a point or 0 for an empty one\n"
+        )),
+        CellsError::Many => show(format_args!("{path}: it has more than 81 cells\n")),
+        CellsError::Few { count } => {
+            show(format_args!("{path}: it has {count} cells, and not 81\n"));
+        }
     }
 }
 
-// Whether a text is 81 cells; says what is wrong where it is not.
-pub fn is_whole(path: &[u8], found: Cells) -> bool
-    ensures { result ≡ is_whole found }
+// The cells of a text; none where it is not whole, and what is wrong with it is said.
+pub fn whole_cells(path: &[u8], text: &[u8]) -> Option<[u8; 81]>
+    ensures { result ≡ whole_cells text.now }
 {
-    complain(path, found);
-    if found.wrong != 0 {
-        return false;
-    }
-    found.count == CELLS
-}
-
-// The cells of a file that was read; none where it is not whole.
-fn whole_cells(path: &[u8], file: &[u8; FILE_BYTES], length: usize) -> Cells
-    ensures { result ≡ whole_cells (part_of file.now 0 length) }
-{
-    let found = cells(part(file, 0, length));
-    if is_whole(path, found) {
-        return found;
-    }
-    no_cells()
-}
-
-fn no_cells() -> Cells
-    ensures { result ≡ no_cells }
-{
-    Cells {
-        cells: [0u8; 81],
-        count: 0,
-        wrong: 0,
+    match grid(text) {
+        Ok(cells) => Some(cells),
+        Err(error) => {
+            complain(path, error);
+            None
+        }
     }
 }
 
 // The cells of a text file; none where it cannot be read or is not whole.
-pub fn read_cells<R: Files>(rt: &R, path: &[u8]) -> Cells
+pub fn read_cells<R: Files>(rt: &R, path: &[u8]) -> Option<[u8; 81]>
     ensures { CellsRead result }
 {
     let mut file = [0u8; FILE_BYTES];
-    let got = read(rt, path, &mut file);
-    if got.good {
-        return whole_cells(path, &file, got.length);
-    }
-    no_cells()
+    let text = read(rt, path, &mut file)?;
+    whole_cells(path, text)
 }
 
 // Whether the name is free, or is that of a plain file that may be written. A device answers no to a sync, and is not
@@ -230,41 +155,6 @@ fn is_replaceable<R: Files>(rt: &R, path: &[u8]) -> io::Result<()> {
     }
 }
 
-// The last figure of a number.
-fn figure(n: usize) -> u8 {
-    b'0' + (n % 10) as u8
-}
-
-// Character i of the new file's name: the path, and a number that no other file beside it has.
-fn name_byte(path: &[u8], i: usize, n: usize) -> u8 {
-    if i < path.len() {
-        return path[i];
-    }
-    let behind = i - path.len();
-    match behind {
-        0 => b'.',
-        1 => figure(n / 100000),
-        2 => figure(n / 10000),
-        3 => figure(n / 1000),
-        4 => figure(n / 100),
-        5 => figure(n / 10),
-        _ => figure(n),
-    }
-}
-
-// The first `length` characters of the new file's name, with a number.
-fn new_name(path: &[u8], length: usize, n: usize) -> [u8; PATH_MAX]
-    requires { length ≤ path_max }
-{
-    let mut name = [0u8; PATH_MAX];
-    let mut i: usize = 0;
-    while i < length {
-        name[i] = name_byte(path, i, n);
-        i += 1;
-    }
-    name
-}
-
 // Writes all bytes, and waits until they have reached the disk.
 fn is_written<F: Write + OpenFile>(file: &mut F, bytes: &[u8]) -> io::Result<()> {
     match file.set_permissions(Permissions::from_mode(0o644)) {
@@ -275,29 +165,20 @@ fn is_written<F: Write + OpenFile>(file: &mut F, bytes: &[u8]) -> io::Result<()>
     file.sync_all()
 }
 
-// Makes a new file, under a name that no other file has.
-fn create_new<R: Files>(rt: &R, name: &[u8]) -> io::Result<R::File> {
-    let mut how = OpenOptions::new();
-    how.read(true).write(true).create_new(true).mode(0o600);
-    opened(rt, &how, name)
+// A new file beside the path, under a name that no other file has.
+struct NewFile<F> {
+    file: F,
+    name: InlineText<PATH_MAX>,
 }
 
-// Makes the new file beside the path, under the first of its names that is free; answers the name in its memory.
-fn created<R: Files>(
-    rt: &R,
-    path: &[u8],
-    length: usize,
-    name: &mut [u8; PATH_MAX],
-) -> io::Result<R::File>
-    requires { length ≤ path_max }
-{
+// Makes the new file, under the first of its names that is free: the path, a full stop and a number of six figures.
+fn created<R: Files>(rt: &R, path: &str) -> io::Result<NewFile<R::File>> {
+    let mut how = OpenOptions::new();
+    how.read(true).write(true).create_new(true).mode(0o600);
     for n in 0..NUMBERS {
-        let next = new_name(path, length, n);
-        match create_new(rt, &next[..length]) {
-            Ok(file) => {
-                *name = next;
-                return Ok(file);
-            }
+        let name = InlineText::<PATH_MAX>::of(format_args!("{path}.{n:06}"));
+        match how.open(rt, name.as_str()) {
+            Ok(file) => return Ok(NewFile { file, name }),
             Err(error) => match error.kind() {
                 ErrorKind::AlreadyExists => {}
                 _ => return Err(error),
@@ -311,45 +192,28 @@ fn created<R: Files>(
 fn replace<R: Files>(
     rt: &R,
     file: R::File,
-    new: &[u8],
-    path: &[u8],
+    name: &str,
+    path: &str,
     bytes: &[u8],
 ) -> io::Result<()> {
     let mut file = file;
     is_written(&mut file, bytes)?;
     drop(file);
-    fs::rename(rt, name_of(new)?, name_of(path)?)
+    fs::rename(rt, name, path)
 }
 
-// Removes the new file, where its bytes did not reach the disk or it did not get the name.
-fn removed<R: Files>(rt: &R, new: &[u8]) -> io::Result<()> {
-    fs::remove_file(rt, name_of(new)?)
-}
-
-// Writes the new file and has it take the path's place; what fails leaves no new file behind.
-fn save_as<R: Files>(
-    rt: &R,
-    file: R::File,
-    new: &[u8],
-    path: &[u8],
-    bytes: &[u8],
-) -> io::Result<()> {
-    match replace(rt, file, new, path, bytes) {
+// Saves bytes under a name that is not too long: a new file has them and takes the path's place; what fails leaves no
+// new file behind.
+fn saved<R: Files>(rt: &R, path: &[u8], bytes: &[u8]) -> io::Result<()> {
+    let path = name_of(path)?;
+    let NewFile { file, name } = created(rt, path)?;
+    match replace(rt, file, name.as_str(), path, bytes) {
         Ok(()) => Ok(()),
-        Err(error) => match removed(rt, new) {
+        Err(error) => match fs::remove_file(rt, name.as_str()) {
             // what is told is why the bytes were not saved
             Ok(()) | Err(_) => Err(error),
         },
     }
-}
-
-// Saves bytes under a name that is not too long.
-fn saved<R: Files>(rt: &R, path: &[u8], length: usize, bytes: &[u8]) -> io::Result<()>
-    requires { length ≤ path_max }
-{
-    let mut name = [0u8; PATH_MAX];
-    let file = created(rt, path, length, &mut name)?;
-    save_as(rt, file, &name[..length], path, bytes)
 }
 
 // What became of a save, in words where it failed.
@@ -357,7 +221,7 @@ fn told(path: &[u8], outcome: io::Result<()>) -> bool {
     match outcome {
         Ok(()) => true,
         Err(error) => {
-            failed(b"cannot write ", path, &error);
+            failed("write", path, reason(&error));
             false
         }
     }
@@ -371,10 +235,9 @@ pub fn save<R: Files>(rt: &R, path: &[u8], bytes: &[u8]) -> bool
     if !told(path, is_replaceable(rt, path)) {
         return false;
     }
-    if path.len() > 4000 {
-        say(b"cannot write: the name is too long\n");
+    if path.len() > NAME_BYTES {
+        show("cannot write: the name is too long\n");
         return false;
     }
-    let length = path.len() + NUMBERED;
-    told(path, saved(rt, path, length, bytes))
+    told(path, saved(rt, path, bytes))
 }

@@ -6,26 +6,11 @@
 ghost use Rattle.std.specs.Prelude.{◌≡◌};
 ghost use Rattle.files.specs.Memory.{fresh_memory};
 
-use board::Board;
 use journal::{CHECK_MEMORY, JOURNAL_BYTES};
 
 pub mod arguments;
 pub mod disk;
 pub mod load;
-
-// Whether a file was read, and how many bytes of it.
-#[derive(Clone, Copy)]
-pub struct Got {
-    pub good: bool,
-    pub length: usize,
-}
-
-// A board that was opened, or none.
-#[derive(Clone, Copy)]
-pub struct Loaded {
-    pub good: bool,
-    pub board: Board,
-}
 
 // The memory that is lent to a board: its journal and its checks.
 #[derive(Clone, Copy)]
@@ -35,7 +20,6 @@ pub struct Memory {
 }
 
 impl Memory {
-    // Memory of zeros, as a board is opened in.
     #[tactic(auto, unfolding(board::specs::Open::no_moves, board::specs::Open::no_checks))]
     pub fn new() -> Memory
         ensures { result ≡ fresh_memory }

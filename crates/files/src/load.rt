@@ -1,245 +1,128 @@
 // A puzzle and its solution, or a record, from files; or a mailed line with the line of its solution. The board that is
 // being played stays until another one is open.
 ghost use Rattle.std.specs.Prelude.{◌≡◌};
-ghost use Rattle.board.specs.Open.{open_of, no_moves, no_checks, Gives};
-ghost use Rattle.lines.specs.Lines.{digits_bytes};
-ghost use Rattle.texts.specs.Parts.{part_of};
-ghost use Rattle.files.specs.Load.{is_record, open_bytes, is_openable, left, nothing_loaded, takes_place, open_apart, load_bytes, FileLoaded, FilesLoaded, open_line, load_line};
+ghost use Rattle.board.specs.Open.{open_of, Gives};
+ghost use Rattle.files.specs.Load.{is_record, open_bytes, is_openable, left, takes_place, load_bytes, FileLoaded, FilesLoaded, open_line, load_line};
 
-use crate::Loaded;
-use crate::disk::{FILE_BYTES, is_whole, read, read_cells};
-use board::Answer;
-use board::open::{open, zero_board};
+use crate::Memory;
+use crate::disk::{FILE_BYTES, read, read_cells, whole_cells};
+use board::open::open;
+use board::{Answer, Board};
 use journal::{CHECK_MEMORY, JOURNAL_BYTES};
 use lines::{GIVENS_ROOM, givens_of, line_cells, read_line};
-use print::say;
+use print::show;
 use print::words::{explain, explain_line};
 use puzzle::byte_at;
 use reopen::reopen;
 use std::rt::Files;
-use sudoku::CELLS;
 use texts::grids::cells;
 use texts::part;
 
-fn nothing() -> Loaded
-    ensures { result ≡ nothing_loaded }
-{
-    Loaded {
-        good: false,
-        board: zero_board(),
-    }
-}
-
 // A record's first byte is the kind of its first item, 1 to 7; a text never starts so.
+#[tactic(auto, unfolding(crate::specs::Load::is_record, sudoku::specs::Tests::both))]
 fn is_record(bytes: &[u8]) -> bool
     ensures { result ≡ is_record bytes.now }
 {
-    let kind = byte_at(bytes, 0);
-    if kind < 1 {
-        return false;
-    }
-    kind <= 7
-}
-
-// Opens with givens in the first bytes of some.
-fn open_givens(
-    bytes: &[u8; GIVENS_ROOM],
-    length: usize,
-    right: &[u8; 81],
-    journal: &mut [u8; JOURNAL_BYTES],
-    checks: &mut [u8; CHECK_MEMORY],
-) -> Answer
-    ensures { Gives (open_of (part_of bytes.now 0 length) right.now journal.old checks.old) result journal.new checks.new }
-{
-    open(part(bytes, 0, length), right, journal, checks)
-}
-
-// Opens a puzzle.
-fn open_puzzle(
-    puzzle: &[u8; 81],
-    right: &[u8; 81],
-    journal: &mut [u8; JOURNAL_BYTES],
-    checks: &mut [u8; CHECK_MEMORY],
-) -> Answer
-    ensures { Gives (open_of (digits_bytes puzzle.now) right.now journal.old checks.old) result journal.new checks.new }
-{
-    let g = givens_of(puzzle);
-    open_givens(&g.bytes, g.length, right, journal, checks)
-}
-
-// Reopens a record, or opens a puzzle.
-pub fn open_bytes(
-    bytes: &[u8],
-    right: &[u8; 81],
-    journal: &mut [u8; JOURNAL_BYTES],
-    checks: &mut [u8; CHECK_MEMORY],
-) -> Answer
-    ensures { Gives (open_bytes bytes.now right.now journal.old checks.old) result journal.new checks.new }
-{
-    if is_record(bytes) {
-        return reopen(bytes, right, journal, checks);
-    }
-    let found = cells(bytes);
-    open_puzzle(&found.cells, right, journal, checks)
-}
-
-// What was opened in memory apart takes the place of the lent memory, where all went well.
-fn taken_up(
-    answer: Answer,
-    own_journal: &[u8; JOURNAL_BYTES],
-    own_checks: &[u8; CHECK_MEMORY],
-    journal: &mut [u8; JOURNAL_BYTES],
-    checks: &mut [u8; CHECK_MEMORY],
-) -> Loaded
-    ensures { left result journal.new checks.new ≡ takes_place (record { answer = answer; journal = own_journal.now; checks = own_checks.now }) journal.old checks.old }
-{
-    let refused = answer.refusal;
-    if refused.number != 0 {
-        explain(refused);
-        return nothing();
-    }
-    *journal = *own_journal;
-    *checks = *own_checks;
-    let board = answer.board;
-    Loaded {
-        good: true,
-        board: board,
-    }
-}
-
-// Opens what a file holds in memory of its own.
-fn open_apart(
-    bytes: &[u8],
-    right: &[u8; 81],
-    journal: &mut [u8; JOURNAL_BYTES],
-    checks: &mut [u8; CHECK_MEMORY],
-) -> Loaded
-    ensures { left result journal.new checks.new ≡ open_apart bytes.now right.now journal.old checks.old }
-{
-    let mut own_journal = [0u8; JOURNAL_BYTES];
-    let mut own_checks = [0u8; CHECK_MEMORY];
-    let answer = open_bytes(bytes, right, &mut own_journal, &mut own_checks);
-    taken_up(answer, &own_journal, &own_checks, journal, checks)
+    matches!(byte_at(bytes, 0), 1..=7)
 }
 
 // Whether a file is a record, or a text of 81 cells.
 fn is_openable(path: &[u8], bytes: &[u8]) -> bool
     ensures { result ≡ is_openable bytes.now }
 {
-    if is_record(bytes) {
-        return true;
-    }
-    is_whole(path, cells(bytes))
+    is_record(bytes) || whole_cells(path, bytes).is_some()
 }
 
-// What the first bytes of a file hold, with a solution.
-fn load_file(
-    path: &[u8],
-    file: &[u8; FILE_BYTES],
-    length: usize,
-    right: &[u8; 81],
-    journal: &mut [u8; JOURNAL_BYTES],
-    checks: &mut [u8; CHECK_MEMORY],
-) -> Loaded
-    ensures { left result journal.new checks.new ≡ load_bytes (part_of file.now 0 length) right.now journal.old checks.old }
-{
-    let bytes = part(file, 0, length);
-    if !is_openable(path, bytes) {
-        return nothing();
+impl Memory {
+    // Reopens a record, or opens a puzzle. A puzzle's text is taken as far as it has cells.
+    pub fn open_bytes(&mut self, bytes: &[u8], right: &[u8; 81]) -> Answer
+        ensures { Gives (open_bytes bytes.now right.now self.old.journal self.old.checks) result self.new.journal self.new.checks }
+    {
+        if is_record(bytes) {
+            return reopen(bytes, right, &mut self.journal, &mut self.checks);
+        }
+        let givens = givens_of(&cells(bytes).cells);
+        let front = part(&givens.bytes, 0, givens.length);
+        open(front, right, &mut self.journal, &mut self.checks)
     }
-    open_apart(bytes, right, journal, checks)
-}
 
-// What a file holds, with a solution.
-fn load_with<R: Files>(
-    rt: &R,
-    path: &[u8],
-    right: &[u8; 81],
-    journal: &mut [u8; JOURNAL_BYTES],
-    checks: &mut [u8; CHECK_MEMORY],
-) -> Loaded
-    ensures { FileLoaded right.now journal.old checks.old (left result journal.new checks.new) }
-{
-    let mut file = [0u8; FILE_BYTES];
-    let got = read(rt, path, &mut file);
-    if !got.good {
-        return nothing();
+    // What was opened in memory apart takes the place of this memory, where all went well.
+    fn take_up(&mut self, answer: Answer, own: &Memory) -> Option<Board>
+        ensures { left result self.new.journal self.new.checks ≡ takes_place (record { answer = answer; journal = own.now.journal; checks = own.now.checks }) self.old.journal self.old.checks }
+    {
+        if answer.refusal.number != 0 {
+            explain(answer.refusal);
+            return None;
+        }
+        *self = *own;
+        Some(answer.board)
     }
-    load_file(path, &file, got.length, right, journal, checks)
-}
 
-// A record or a puzzle with the solution of a second file, or with the one at hand where no second file is named.
-pub fn load<R: Files>(
-    rt: &R,
-    path: &[u8],
-    solution: &[u8],
-    at_hand: &[u8; 81],
-    journal: &mut [u8; JOURNAL_BYTES],
-    checks: &mut [u8; CHECK_MEMORY],
-) -> Loaded
-    ensures { FilesLoaded solution.now at_hand.now journal.old checks.old (left result journal.new checks.new) }
-{
-    if solution.len() == 0 {
-        return load_with(rt, path, at_hand, journal, checks);
+    // What the bytes of a file open, with a solution.
+    fn load_bytes(&mut self, path: &[u8], bytes: &[u8], right: &[u8; 81]) -> Option<Board>
+        ensures { left result self.new.journal self.new.checks ≡ load_bytes bytes.now right.now self.old.journal self.old.checks }
+    {
+        if !is_openable(path, bytes) {
+            return None;
+        }
+        let mut own = Memory::new();
+        let answer = own.open_bytes(bytes, right);
+        self.take_up(answer, &own)
     }
-    let found = read_cells(rt, solution);
-    if found.count != CELLS {
-        return nothing();
-    }
-    load_with(rt, path, &found.cells, journal, checks)
-}
 
-// Opens givens in memory of its own.
-fn open_givens_apart(
-    bytes: &[u8; GIVENS_ROOM],
-    length: usize,
-    right: &[u8; 81],
-    journal: &mut [u8; JOURNAL_BYTES],
-    checks: &mut [u8; CHECK_MEMORY],
-) -> Loaded
-    ensures { left result journal.new checks.new ≡ takes_place (open_of (part_of bytes.now 0 length) right.now no_moves no_checks) journal.old checks.old }
-{
-    let mut own_journal = [0u8; JOURNAL_BYTES];
-    let mut own_checks = [0u8; CHECK_MEMORY];
-    let answer = open_givens(bytes, length, right, &mut own_journal, &mut own_checks);
-    taken_up(answer, &own_journal, &own_checks, journal, checks)
-}
-
-// Opens a mailed line with a solution.
-fn open_line(
-    line: &[u8],
-    right: &[u8; 81],
-    journal: &mut [u8; JOURNAL_BYTES],
-    checks: &mut [u8; CHECK_MEMORY],
-) -> Loaded
-    ensures { left result journal.new checks.new ≡ open_line line.now right.now journal.old checks.old }
-{
-    let mut bytes = [0u8; GIVENS_ROOM];
-    let read = read_line(line, &mut bytes);
-    let refused = read.refusal;
-    if refused.number != 0 {
-        explain_line(refused, line);
-        return nothing();
+    // What a file holds, with a solution.
+    fn load_with<R: Files>(&mut self, rt: &R, path: &[u8], right: &[u8; 81]) -> Option<Board>
+        ensures { FileLoaded right.now self.old.journal self.old.checks (left result self.new.journal self.new.checks) }
+    {
+        let mut file = [0u8; FILE_BYTES];
+        let bytes = read(rt, path, &mut file)?;
+        self.load_bytes(path, bytes, right)
     }
-    open_givens_apart(&bytes, read.length, right, journal, checks)
-}
 
-// A mailed line with the line of its solution, both taken strictly. A blank in the solution is a cell without a digit,
-// which opening refuses.
-pub fn load_line(
-    line: &[u8],
-    solution: &[u8],
-    journal: &mut [u8; JOURNAL_BYTES],
-    checks: &mut [u8; CHECK_MEMORY],
-) -> Loaded
-    ensures { left result journal.new checks.new ≡ load_line line.now solution.now journal.old checks.old }
-{
-    let right = line_cells(solution);
-    let refused = right.refusal;
-    if refused.number != 0 {
-        say(b"the solution's line is ");
-        explain_line(refused, solution);
-        return nothing();
+    // A record or a puzzle with the solution of a second file, or with the one at hand where no second file is named.
+    pub fn load<R: Files>(
+        &mut self,
+        rt: &R,
+        path: &[u8],
+        solution: &[u8],
+        at_hand: &[u8; 81],
+    ) -> Option<Board>
+        ensures { FilesLoaded solution.now at_hand.now self.old.journal self.old.checks (left result self.new.journal self.new.checks) }
+    {
+        if solution.is_empty() {
+            return self.load_with(rt, path, at_hand);
+        }
+        let right = read_cells(rt, solution)?;
+        self.load_with(rt, path, &right)
     }
-    open_line(line, &right.cells, journal, checks)
+
+    // Opens a mailed line with a solution.
+    fn open_line(&mut self, line: &[u8], right: &[u8; 81]) -> Option<Board>
+        ensures { left result self.new.journal self.new.checks ≡ open_line line.now right.now self.old.journal self.old.checks }
+    {
+        let mut givens = [0u8; GIVENS_ROOM];
+        let read = read_line(line, &mut givens);
+        if read.refusal.number != 0 {
+            explain_line(read.refusal, line);
+            return None;
+        }
+        let mut own = Memory::new();
+        let front = part(&givens, 0, read.length);
+        let answer = open(front, right, &mut own.journal, &mut own.checks);
+        self.take_up(answer, &own)
+    }
+
+    // A mailed line with the line of its solution, both taken strictly. A blank in the solution is a cell without a
+    // digit, which opening refuses.
+    pub fn load_line(&mut self, line: &[u8], solution: &[u8]) -> Option<Board>
+        ensures { left result self.new.journal self.new.checks ≡ load_line line.now solution.now self.old.journal self.old.checks }
+    {
+        let right = line_cells(solution);
+        if right.refusal.number != 0 {
+            show("the solution's line is ");
+            explain_line(right.refusal, solution);
+            return None;
+        }
+        self.open_line(line, &right.cells)
+    }
 }

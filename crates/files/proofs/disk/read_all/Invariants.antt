@@ -1,10 +1,10 @@
--- `files::disk::read_all` meets its contract, and ends: the turns are counted down.
+-- `files::disk::read_all` meets its contract, and ends: each turn but the last brings a byte.
 -- Assumes nothing.
-use Prim.Native.Nat.{◌≤◌}
+use Rattle.std.proofs.Common.{◌-◌, ◌≤◌}
 use Rattle.files.proofs.disk.read_all.Given as goal
 
-abbrev pub invariant-loop-turns : goal.invariant-loop-turns
-invariant-loop-turns g l = l.at ≤ 8192
+abbrev pub invariant-loop-at : goal.invariant-loop-at
+invariant-loop-at g l = l.at ≤ 8192
 
-abbrev pub decreases-loop-turns : goal.decreases-loop-turns
-decreases-loop-turns g l = l.turns
+abbrev pub decreases-loop-at : goal.decreases-loop-at
+decreases-loop-at g l = 8192 - l.at

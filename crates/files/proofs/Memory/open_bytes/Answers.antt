@@ -1,9 +1,10 @@
--- `files::load::open_bytes` meets its contract.
+-- `files::Memory::open_bytes` meets its contract.
 -- Assumes nothing.
 use mathlib.Core.Path.{sym, ◌∙◌}
 use Rattle.sudoku.proofs.Walks.{pick_true, pick_false}
 use Rattle.files.specs.Load.{open_bytes}
-use Rattle.files.proofs.load.open_bytes.Goals as goal
+use Rattle.files.proofs.Loading.{givens_front}
+use Rattle.files.proofs.Memory.open_bytes.Goals as goal
 
 pub returns-then-is_record : goal.returns-then-is_record
 unfolding open_bytes
@@ -11,4 +12,6 @@ returns-then-is_record c = rw (pick_true _ _ _ (sym c.is_record.ensures ∙ c.if
 
 pub returns : goal.returns
 unfolding open_bytes
-returns c = rw (pick_false _ _ _ (sym c.is_record.ensures ∙ c.if-is_record.false), ← c.cells-found.ensures) c.open_puzzle.ensures
+returns c =
+    let front = c.part-front.ensures ∙ givens_front _ _ c.givens_of-givens.ensures in
+    rw (pick_false _ _ _ (sym c.is_record.ensures ∙ c.if-is_record.false), ← c.cells.ensures) (rw front at c.«open».ensures)
