@@ -9,8 +9,7 @@ use print::words::explain;
 use reopen::reopen;
 use std::env::Env;
 use std::rt::Files;
-use texts::Word;
-use texts::commands::{NO_NUMBER, value};
+use texts::commands::number;
 
 fn usage() {
     show(
@@ -81,12 +80,7 @@ fn with_solution<R: Files + Env>(rt: &R, one: Option<usize>) {
 fn number_of<R: Env>(rt: &R, i: usize) -> Option<usize> {
     let mut text = [0u8; PATH_MAX];
     let text = word(rt, i, &mut text)?;
-    let whole = Word {
-        start: 0,
-        end: text.len(),
-    };
-    let k = value(text, whole);
-    (k != NO_NUMBER).then_some(k)
+    number(text)
 }
 
 // One move, whose number is the third word.
