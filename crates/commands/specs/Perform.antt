@@ -1,7 +1,7 @@
 -- What a command of the console does: which call of the library it names, and what it leaves of the board and its
 -- lent memory. What a command shows no contract can say.
 -- Assumes nothing.
-use Rattle.std.specs.Prelude.{ℕ, ◌≡◌, Bool, true, false, Option, Some, None, option_map, ltb, leb, eqb}
+use Rattle.std.specs.Prelude.{ℕ, ◌≡◌, Bool, true, false, Option, Some, None, option_map, ltb, leb, eqb, unwrap_or}
 use Rattle.sudoku.specs.Tests.{pick, both}
 use Rattle.journal.specs.declared.Move.{Move}
 use Rattle.journal.specs.declared.Move.TheVariants.{Place, Erase, WriteMark, StrikeMark}
@@ -95,7 +95,7 @@ played g = session g.board g.memory.journal g.memory.checks
 
 -- a board that was opened takes the place of the one that is played; where none was, that one stays
 unfoldable pub taken_up : Board → Left → Session
-taken_up b l = session (pick l.loaded.good l.loaded.board b) l.journal l.checks
+taken_up b l = session (unwrap_or l.loaded b) l.journal l.checks
 
 -- open: a file, and another for the solution where a second word names one; else the solution that is played
 unfoldable pub open_leaves : Request → Content → Content → Session → Session

@@ -1,5 +1,5 @@
 // What each command does: one call of the library, and what it answers shown.
-ghost use Rattle.std.specs.Prelude.{◌≡◌};
+ghost use Rattle.std.specs.Prelude.{◌≡◌, unwrap_or};
 ghost use Rattle.sudoku.specs.Tests.{pick};
 ghost use Rattle.calls.specs.Encoded.{run_one};
 ghost use Rattle.texts.specs.Commands.{request};
@@ -7,9 +7,7 @@ ghost use Rattle.commands.specs.Perform.{narrowed, third_of, numbers_of, wanted_
 
 use crate::{Game, Numbers};
 use board::{Answer, Board};
-use files::Loaded;
 use files::disk::save;
-use files::load::{load, load_line};
 use journal::Move;
 use journal::slots::slot_at;
 use lines::{LINE_BYTES, write_line};
@@ -289,13 +287,12 @@ impl Game {
     }
 
     // The board that was opened, drawn; where none was, the one that is played stays.
-    #[tactic(auto, unfolding(sudoku::specs::Tests::pick))]
-    fn take_up(&mut self, loaded: Loaded, coloured: bool)
-        ensures { played self.new ≡ record (played self.old) { board = pick loaded.good loaded.board self.old.board } }
+    fn take_up(&mut self, loaded: Option<Board>, coloured: bool)
+        ensures { played self.new ≡ record (played self.old) { board = unwrap_or loaded self.old.board } }
     {
-        if loaded.good {
-            self.board = loaded.board;
-            whole(self.board, coloured);
+        if let Some(board) = loaded {
+            self.board = board;
+            whole(board, coloured);
         }
     }
 
@@ -307,14 +304,8 @@ impl Game {
             want(Verb::Open);
             return;
         }
-        let loaded = load(
-            rt,
-            command.first,
-            command.second,
-            &self.board.solution,
-            &mut self.memory.journal,
-            &mut self.memory.checks,
-        );
+        let right = &self.board.solution;
+        let loaded = self.memory.load(rt, command.first, command.second, right);
         self.take_up(loaded, coloured);
     }
 
@@ -327,12 +318,7 @@ impl Game {
             want(Verb::Puzzle);
             return;
         }
-        let loaded = load_line(
-            command.first,
-            command.second,
-            &mut self.memory.journal,
-            &mut self.memory.checks,
-        );
+        let loaded = self.memory.load_line(command.first, command.second);
         self.take_up(loaded, coloured);
     }
 

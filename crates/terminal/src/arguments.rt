@@ -1,5 +1,5 @@
 // What the console is started with.
-use files::arguments::{argument, count};
+use files::arguments::{count, word};
 use files::disk::PATH_MAX;
 use std::io::IsTerminal;
 
@@ -65,8 +65,7 @@ impl Arguments {
     // With word i.
     fn with_word(self, rt: &HostRuntime, i: usize) -> Option<Arguments> {
         let mut memory = [0u8; PATH_MAX];
-        let length = argument(rt, i, &mut memory);
-        match word_of(&memory[..length])? {
+        match word_of(word(rt, i, &mut memory)?)? {
             Word::Name => self.with_name(i),
             Word::Colour(colour) => Some(Arguments { colour, ..self }),
         }

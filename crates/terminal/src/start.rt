@@ -5,9 +5,8 @@ use board::Board;
 use commands::Game;
 use commands::perform::perform;
 use files::Memory;
-use files::arguments::argument;
+use files::arguments::word;
 use files::disk::PATH_MAX;
-use files::load::{load, open_bytes};
 use print::drawing::whole;
 use print::{Printable, show};
 use std::io::IsTerminal;
@@ -25,12 +24,9 @@ fn built_in_solution() -> [u8; 81] {
 
 // The puzzle that is built in: thirty givens.
 fn built_in(memory: &mut Memory) -> Board {
-    let right = built_in_solution();
-    let answer = open_bytes(
+    let answer = memory.open_bytes(
         b"53..7....6..195....98....6.8...6...34..8.3..17...2...6.6....28....419..5....8..79",
-        &right,
-        &mut memory.journal,
-        &mut memory.checks,
+        &built_in_solution(),
     );
     answer.board
 }
@@ -87,6 +83,14 @@ impl Console {
     }
 }
 
+// The name of a file that a word of the command line is; empty where there is none.
+fn name<'a>(rt: &HostRuntime, at: Option<usize>, memory: &'a mut [u8; PATH_MAX]) -> &'a [u8] {
+    match at {
+        Some(i) => word(rt, i, memory).unwrap_or(&[]),
+        None => &[],
+    }
+}
+
 // The game to start with: the one that the command line names, or the one that is built in.
 fn first_game(rt: &HostRuntime, args: Arguments) -> Option<Game> {
     let mut memory = Memory::new();
@@ -97,26 +101,10 @@ fn first_game(rt: &HostRuntime, args: Arguments) -> Option<Game> {
     let right = built_in_solution();
     let mut path = [0u8; PATH_MAX];
     let mut solution = [0u8; PATH_MAX];
-    let path_length = argument(rt, file, &mut path);
-    let solution_length = match args.solution {
-        Some(i) => argument(rt, i, &mut solution),
-        None => 0,
-    };
-    let loaded = load(
-        rt,
-        &path[..path_length],
-        &solution[..solution_length],
-        &right,
-        &mut memory.journal,
-        &mut memory.checks,
-    );
-    if !loaded.good {
-        return None;
-    }
-    Some(Game {
-        board: loaded.board,
-        memory,
-    })
+    let path = name(rt, Some(file), &mut path);
+    let solution = name(rt, args.solution, &mut solution);
+    let board = memory.load(rt, path, solution, &right)?;
+    Some(Game { board, memory })
 }
 
 // The game, where the board to start with opens.
