@@ -15,13 +15,6 @@ pub fn word<'a, R: Env>(rt: &R, i: usize, memory: &'a mut [u8; PATH_MAX]) -> Opt
     }
 }
 
-// Until its callers have moved to `word`: how long word i is, 0 where there is none or where it finds no room.
-pub fn argument<R: Env>(rt: &R, i: usize, memory: &mut [u8; PATH_MAX]) -> usize
-    ensures { result ≤ path_max }
-{
-    rt.arg(i, memory).unwrap_or(0)
-}
-
 // How many words there are, the program's name among them.
 pub fn count<R: Env>(rt: &R) -> usize {
     let mut none = [0u8; 1];

@@ -34,11 +34,6 @@ pub fn say(text: &[u8]) {
     io::write_all(STDOUT, text);
 }
 
-// until its callers have moved to `show`
-pub fn number(n: usize) {
-    show(n);
-}
-
 fn is_printable(byte: u8) -> bool {
     matches!(byte, b' '..=b'~')
 }
@@ -57,11 +52,6 @@ impl<'a> Display for Printable<'a> {
     }
 }
 
-// A text from outside, its printable characters alone.
-pub fn shown(text: &[u8]) {
-    show(Printable(text));
-}
-
 // How many there are of a thing, with its noun.
 #[derive(Clone, Copy)]
 pub struct Count {
@@ -76,10 +66,4 @@ impl Display for Count {
         let noun = if n == 1 { one } else { more };
         write!(f, "{n}{noun}")
     }
-}
-
-// How many there are of a thing; until its callers have moved to `Count`.
-pub fn counted(n: usize, one: &[u8], more: &[u8]) {
-    number(n);
-    say(if n == 1 { one } else { more });
 }
