@@ -3,7 +3,6 @@
 // functions of crate pawdoku, a move by the function that its four hand it to (docs/DECISIONS.md, 31).
 ghost use Rattle.std.specs.Prelude.{◌≡◌, false as no, ◌/◌, ◌<◌, length};
 ghost use Rattle.puzzle.specs.Refusals.{accepted as accepted_of};
-ghost use Rattle.calls.specs.Session.{call_of};
 ghost use Rattle.calls.specs.Encoded.{call_bytes, said, decode_at, answer_bytes, session, ran, run_one, run_of};
 
 use crate::played::{pawdoku_check, pawdoku_redo, pawdoku_undo};
@@ -44,33 +43,9 @@ fn answered(given: Answer, answer: &mut [u8; CALL_BYTES]) -> Board
     given.board
 }
 
-// One call, and its answer. The answer is written where it is returned: handed on as one struct for all calls, a list
-// of 392 took a fifth longer.
-#[tactic(auto, unfolding(calls::specs::Session::call_of, calls::specs::Session::called))]
-fn call(
-    board: Board,
-    journal: &mut [u8],
-    checks: &mut [u8],
-    c: Call,
-    answer: &mut [u8; CALL_BYTES],
-) -> Board
-    ensures left { session result journal.new checks.new ≡ (call_of (session board journal.old checks.old) c).left }
-    ensures answer_after { answer.new ≡ answer_bytes (call_of (session board journal.old checks.old) c).said }
-{
-    match c {
-        Call::Make(m) => answered(play::moves::play(board, journal, m), answer),
-        Call::Undo => answered(pawdoku_undo(board, journal), answer),
-        Call::Redo => answered(pawdoku_redo(board, journal), answer),
-        Call::Check { row, column } => {
-            let found = pawdoku_check(board, checks, row, column);
-            *answer = encoded(found.refusal, found.right);
-            found.board
-        }
-    }
-}
-
-// One group: run, and answered; bytes that encode no call are answered by 255 and change nothing.
-#[tactic(auto, unfolding(calls::specs::Encoded::run_one, calls::specs::Session::called))]
+// One group: its call run, and answered; bytes that encode no call are answered by 255 and change nothing. The answer
+// is written where it is returned: handed on as one struct for all calls, a list of 392 took a fifth longer.
+#[tactic(auto, unfolding(calls::specs::Encoded::run_one, calls::specs::Session::call_of, calls::specs::Session::called))]
 fn one_call(
     board: Board,
     journal: &mut [u8],
@@ -81,11 +56,20 @@ fn one_call(
     ensures left { session result journal.new checks.new ≡ (run_one (session board journal.old checks.old) asked).left }
     ensures answer_after { answer.new ≡ answer_bytes (run_one (session board journal.old checks.old) asked).said }
 {
-    let Some(c) = asked else {
-        *answer = encoded(refusal(NO_CALL, 0, 0), false);
-        return board;
-    };
-    call(board, journal, checks, c, answer)
+    match asked {
+        Some(Call::Make(m)) => answered(play::moves::play(board, journal, m), answer),
+        Some(Call::Undo) => answered(pawdoku_undo(board, journal), answer),
+        Some(Call::Redo) => answered(pawdoku_redo(board, journal), answer),
+        Some(Call::Check { row, column }) => {
+            let found = pawdoku_check(board, checks, row, column);
+            *answer = encoded(found.refusal, found.right);
+            found.board
+        }
+        None => {
+            *answer = encoded(refusal(NO_CALL, 0, 0), false);
+            board
+        }
+    }
 }
 
 // Runs an encoded list of calls, and writes each call's answer. The list itself is never refused.
