@@ -44,7 +44,8 @@ pub fn flat(rows: [[u8; 9]; 9]) -> [u8; 81]
 
 // 23 and 24 of what the solution holds at a cell. The rows would be copied at each cell, so their digit is handed over.
 fn solution_digit(digit: u8, cell: usize) -> Result<(), WellPosedError>
-    ensures { (solution : List ℕ) → at solution cell ≡ digit → told well_posed_refusal result ≡ solution_digit solution cell }
+    ensures { (solution : List ℕ) → at solution cell ≡ digit
+        → told well_posed_refusal result ≡ solution_digit solution cell }
 {
     if digit == 0 {
         return Err(WellPosedError::SolutionNotFull { cell });
