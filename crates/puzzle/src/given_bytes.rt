@@ -95,8 +95,7 @@ impl<'a> GivenBytes<'a> {
     }
 }
 
-// The same as functions of the three parts, until their callers have moved.
-
+// The same as a function of the three parts, until its callers have moved.
 pub fn is_ascending(bytes: &[u8], layout: Layout, count: usize) -> bool
     ensures { result ≡ ascending (givens_in layout bytes.now count) }
 {
@@ -106,26 +105,4 @@ pub fn is_ascending(bytes: &[u8], layout: Layout, count: usize) -> bool
         count,
     }
     .is_ascending()
-}
-
-pub fn put_givens(bytes: &[u8], layout: Layout, count: usize) -> [u8; 81]
-    ensures { result ≡ digits_of (givens_in layout bytes.now count) }
-{
-    GivenBytes {
-        bytes,
-        layout,
-        count,
-    }
-    .digits()
-}
-
-pub fn mark_givens(bytes: &[u8], layout: Layout, count: usize) -> [u8; 81]
-    ensures { result ≡ given_cells (givens_in layout bytes.now count) }
-{
-    GivenBytes {
-        bytes,
-        layout,
-        count,
-    }
-    .flags()
 }

@@ -190,8 +190,7 @@ impl<'a> GivenBytes<'a> {
     }
 }
 
-// The same as functions of the three parts, which answer the refusal, until their callers have moved.
-
+// `vouch` as a function of the three parts, which answers the refusal, until its callers have moved.
 pub fn vouch(bytes: &[u8], layout: Layout, count: usize, rows: [[u8; 9]; 9]) -> Refusal
     ensures { result ≡ vouch_of (givens_in layout bytes.now count) (flat_of rows) }
 {
@@ -201,15 +200,4 @@ pub fn vouch(bytes: &[u8], layout: Layout, count: usize, rows: [[u8; 9]; 9]) -> 
         count,
     }
     .vouch(rows))
-}
-
-pub fn well_posed(bytes: &[u8], layout: Layout, count: usize, rows: [[u8; 9]; 9]) -> Refusal
-    ensures { result ≡ well_posed (givens_in layout bytes.now count) (flat_of rows) }
-{
-    answer::told(GivenBytes {
-        bytes,
-        layout,
-        count,
-    }
-    .well_posed(rows))
 }

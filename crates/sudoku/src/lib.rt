@@ -1,7 +1,7 @@
 // The grid (sudoku.rs): positions, cells, bands and stacks, and the peers of a cell.
 #![tactic(auto)]
 
-ghost use Rattle.std.specs.Prelude.{◌≡◌, ◌≤◌, ◌<◌};
+ghost use Rattle.std.specs.Prelude.{◌≡◌, ◌≤◌};
 ghost use Rattle.sudoku.specs.Grid.{in_range, on_grid, cell_of, is_cell, row_of, column_of, box_index, is_peer_of, peers_of};
 
 mod table;
@@ -16,13 +16,6 @@ pub const LINE: usize = 9;
 pub const CELLS: usize = LINE * LINE;
 // As many cells share a row, a column or a box with a cell.
 pub const PEERS_PER_CELL: usize = 20;
-
-// A byte as a length. The bound spares callers a fact about the byte.
-pub fn wide(x: u8) -> usize
-    ensures { (result ≡ x) × (result < 256) }
-{
-    usize::from(x) // until its callers have moved
-}
 
 // Whether a digit, a row or a column is 1 to 9.
 #[tactic(auto, unfolding(crate::specs::Grid::in_range, crate::specs::Tests::both))]
