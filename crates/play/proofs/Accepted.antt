@@ -19,10 +19,9 @@ use Rattle.journal.specs.Bytes.{part, over}
 use Rattle.journal.specs.StoredChecks.{stored_bytes}
 use Rattle.board.specs.declared.Board.{Board}
 use Rattle.board.specs.Board.{state_of, is_board, lent_tests}
-use Rattle.board.specs.Open.{answer}
-use Rattle.play.specs.Play.{unsound_slot, journal_refusal, played, move_tests, call_tests, record_move, play_of, slot_refusal, undo_tests, undone, undo_of, redo_tests, redone, redo_of, latest_number, latest_part, next_number, next_part}
+use Rattle.play.specs.Play.{unsound_slot, journal_refusal, played, move_tests, call_tests, record_move, play_of, slot_refusal, latest_number, latest_part, next_number, next_part}
 use Rattle.play.specs.Check.{checked, check_tests, check_on, with_check, check_of}
-use Rattle.journal.specs.Slots.{slot_at, slot_part, slot_start}
+use Rattle.journal.specs.Slots.{slot_part, slot_start}
 use Rattle.play.proofs.Joined.{moves_numbered, join_last}
 
 -- ---- the counts of a board value that number 2 does not refuse
@@ -114,23 +113,6 @@ unfolding slot_refusal
 slot_14 n slot e =
     ap (λ (x : ℕ). refusal x slot 0) e ∙ ap (λ (x : ℕ). refusal n x 0) (sym (pick_true (eqb n 14) slot 0 (eq-eqb n 14 (sym e))))
 
-module _ (b : Board) (journal : List ℕ) where
-  pub undo_refused : (first (undo_tests b journal) ≡ 0 → ⊥) → answer (slot_refusal (first (undo_tests b journal)) b.standing) b ≡ undo_of b journal
-  unfolding undo_of
-  undo_refused h = sym (pick_false _ _ _ (ne_eqb (first (undo_tests b journal)) 0 h))
-
-  pub undo_made : first (undo_tests b journal) ≡ 0 → answer accepted (undone b (slot_at journal b.standing)) ≡ undo_of b journal
-  unfolding undo_of
-  undo_made p = sym (pick_true _ _ _ (eq-eqb (first (undo_tests b journal)) 0 p))
-
-  pub redo_refused : (first (redo_tests b journal) ≡ 0 → ⊥) → answer (slot_refusal (first (redo_tests b journal)) (b.standing + 1)) b ≡ redo_of b journal
-  unfolding redo_of
-  redo_refused h = sym (pick_false _ _ _ (ne_eqb (first (redo_tests b journal)) 0 h))
-
-  pub redo_made : first (redo_tests b journal) ≡ 0 → answer accepted (redone b (slot_at journal (b.standing + 1))) ≡ redo_of b journal
-  unfolding redo_of
-  redo_made p = sym (pick_true _ _ _ (eq-eqb (first (redo_tests b journal)) 0 p))
-
 -- ---- the check
 
 module _ (b : Board) (checks : List ℕ) (row column n : ℕ) (e : n ≡ first (check_tests b checks row column)) where
@@ -173,10 +155,6 @@ part_next journal n =
     λ i. take (size i) (drop (start i) journal)
 
 module _ (b : Board) (journal : List ℕ) where
-  pub latest_none : (latest_number b journal ≡ 0 → ⊥) → [] ≡ latest_part b journal
-  unfolding latest_part
-  latest_none h = sym (pick_false _ _ _ (ne_eqb (latest_number b journal) 0 h))
-
   pub latest_part_lem : latest_number b journal ≡ 0 → slot_part journal b.standing ≡ latest_part b journal
   unfolding latest_part
   latest_part_lem p = sym (pick_true _ _ _ (eq-eqb (latest_number b journal) 0 p))
@@ -190,10 +168,6 @@ module _ (b : Board) (journal : List ℕ) where
     where
       within : Counted b → length journal ≡ journal_bytes → (b.standing ≡ 0 → ⊥) → (1 ≤ b.standing) × (slot_bytes * b.standing ≤ length journal)
       within c q h = (omega (arith, h), omega (arith, c.made, c.standing, q))
-
-  pub next_none : (next_number b journal ≡ 0 → ⊥) → [] ≡ next_part b journal
-  unfolding next_part
-  next_none h = sym (pick_false _ _ _ (ne_eqb (next_number b journal) 0 h))
 
   pub next_part_lem : next_number b journal ≡ 0 → slot_part journal (b.standing + 1) ≡ next_part b journal
   unfolding next_part

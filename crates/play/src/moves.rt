@@ -8,7 +8,7 @@ ghost use Rattle.journal.specs.Limits.{slot_bytes};
 ghost use Rattle.journal.specs.Code.Laid.{laid};
 ghost use Rattle.journal.specs.Slots.{slot_for, plain_slot, bytes_of};
 ghost use Rattle.play.specs.Code.Parts.{parts};
-ghost use Rattle.play.specs.Play.{play_of, place_of, erase_of, write_mark_of, strike_mark_of};
+ghost use Rattle.play.specs.Play.{play_of};
 
 use crate::tests::call_test;
 use board::{Answer, Board};
@@ -160,51 +160,4 @@ pub fn make_in(
     write_slot(journal, standing, slot);
     perform_notes(notes, m);
     perform_digit(digits, solved, m)
-}
-
-// Puts a digit into a cell. Refused by 1 2 3 4 5 8 9 15.
-pub fn place(board: Board, journal: &mut [u8], row: u8, column: u8, digit: u8) -> Answer
-    ensures { (result ≡ (place_of board journal.old row column digit).answer) × (journal.new ≡ (place_of board journal.old row column digit).journal) }
-{
-    let m = Move::Place {
-        row: row,
-        column: column,
-        digit: digit,
-    };
-    play(board, journal, m)
-}
-
-// Empties a cell. Refused by 1 2 3 4 6 15.
-pub fn erase(board: Board, journal: &mut [u8], row: u8, column: u8) -> Answer
-    ensures { (result ≡ (erase_of board journal.old row column).answer) × (journal.new ≡ (erase_of board journal.old row column).journal) }
-{
-    let m = Move::Erase {
-        row: row,
-        column: column,
-    };
-    play(board, journal, m)
-}
-
-// Writes a mark. Refused by 1 2 3 4 7 8 10 15.
-pub fn write_mark(board: Board, journal: &mut [u8], row: u8, column: u8, digit: u8) -> Answer
-    ensures { (result ≡ (write_mark_of board journal.old row column digit).answer) × (journal.new ≡ (write_mark_of board journal.old row column digit).journal) }
-{
-    let m = Move::WriteMark {
-        row: row,
-        column: column,
-        digit: digit,
-    };
-    play(board, journal, m)
-}
-
-// Strikes a mark. Refused by 1 2 3 4 7 11 15.
-pub fn strike_mark(board: Board, journal: &mut [u8], row: u8, column: u8, digit: u8) -> Answer
-    ensures { (result ≡ (strike_mark_of board journal.old row column digit).answer) × (journal.new ≡ (strike_mark_of board journal.old row column digit).journal) }
-{
-    let m = Move::StrikeMark {
-        row: row,
-        column: column,
-        digit: digit,
-    };
-    play(board, journal, m)
 }

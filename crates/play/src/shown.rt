@@ -45,35 +45,3 @@ pub fn next_slot<'a>(board: Board, journal: &'a [u8]) -> Result<&'a [u8], PlayEr
     }
     Ok(slot_behind(journal, board.standing))
 }
-
-// The same with the number beside the part, which is empty after a refusal; until their callers have moved.
-
-pub fn latest<'a>(board: Board, journal: &'a [u8], number: &mut u8) -> &'a [u8]
-    ensures { (result.now ≡ latest_part board journal.now) × (number.new ≡ latest_number board journal.now) }
-{
-    match latest_slot(board, journal) {
-        Ok(part) => {
-            *number = 0;
-            part
-        }
-        Err(e) => {
-            *number = e.number();
-            &journal[0..0]
-        }
-    }
-}
-
-pub fn next<'a>(board: Board, journal: &'a [u8], number: &mut u8) -> &'a [u8]
-    ensures { (result.now ≡ next_part board journal.now) × (number.new ≡ next_number board journal.now) }
-{
-    match next_slot(board, journal) {
-        Ok(part) => {
-            *number = 0;
-            part
-        }
-        Err(e) => {
-            *number = e.number();
-            &journal[0..0]
-        }
-    }
-}

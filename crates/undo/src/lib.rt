@@ -12,7 +12,7 @@ ghost use Rattle.sudoku.specs.Tests.{first};
 ghost use Rattle.puzzle.specs.Refusals.{told};
 ghost use Rattle.journal.specs.State.{perform_again};
 ghost use Rattle.journal.specs.Slots.{move_of};
-ghost use Rattle.board.specs.Board.{whole, state_of, counts_of};
+ghost use Rattle.board.specs.Board.{counts_of};
 ghost use Rattle.board.specs.Errors.{number_told};
 ghost use Rattle.board.specs.Open.{answer};
 ghost use Rattle.play.specs.Code.Parts.{parts};
@@ -107,37 +107,6 @@ pub fn take_back(board: &mut Board, journal: &[u8])
 {
     let before = *board;
     let _ = go::<Back>(board, before, journal);
-}
-
-// The same on the board's parts; until its caller has moved.
-pub fn undo_in<'a>(
-    digits: &mut [u8; 81],
-    given: &'a [u8; 81],
-    notes: &mut [u16; 81],
-    solution: &'a [u8; 81],
-    solved: &mut u8,
-    made: usize,
-    standing: &mut usize,
-    checks: usize,
-    journal: &&[u8],
-)
-    ensures { whole digits.new given.now notes.new solution.now solved.new made standing.new checks ≡ (undo_of (whole digits.old given.now notes.old solution.now solved.old made standing.old checks) journal.now.now).board }
-{
-    let mut board = Board {
-        digits: *digits,
-        given: *given,
-        notes: *notes,
-        solution: *solution,
-        solved: *solved,
-        made,
-        standing: *standing,
-        checks,
-    };
-    take_back(&mut board, *journal);
-    *digits = board.digits;
-    *notes = board.notes;
-    *solved = board.solved;
-    *standing = board.standing;
 }
 
 // A recorded move performed again on parts that are lent, in place and however
