@@ -21,11 +21,11 @@ use board::value::is_board;
 use error::LineError;
 use journal::slots::is_given;
 use puzzle::answer::accepted;
-use puzzle::text::cell_value;
+use puzzle::text::value_of;
 use puzzle::{Refusal, digit_at};
 use record::Written;
 use record::write::nothing_written;
-use sudoku::{CELLS, SIDE, column_of, row_of};
+use sudoku::{CELLS, column_of, row_of};
 
 pub mod error;
 
@@ -54,11 +54,10 @@ pub fn line_digits(line: &[u8]) -> Result<[u8; CELLS], LineError>
     }
     let mut digits = [0u8; CELLS];
     for i in 0..CELLS {
-        let value = cell_value(line[i]);
-        if value > SIDE {
+        let Some(digit) = value_of(line[i]) else {
             return Err(LineError::OtherSort { character: i + 1 });
-        }
-        digits[i] = value;
+        };
+        digits[i] = digit;
     }
     Ok(digits)
 }

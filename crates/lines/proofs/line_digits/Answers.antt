@@ -23,26 +23,26 @@ pub loop-i-init : goal.loop-i-init
 unfolding listed
 loop-i-init c = record { tested = refl; long = refl; filled = refl }
 
-pub returns-then-value-gt-SIDE-clause-refusal : goal.returns-then-value-gt-SIDE-clause-refusal
-returns-then-value-gt-SIDE-clause-refusal c =
+pub returns-in_default-clause-refusal : goal.returns-in_default-clause-refusal
+returns-in_default-clause-refusal c =
     let line = c.args.line.now in
     let i = c.loop-i.i in
-    let here = c.cell_value-value.ensures ∙ ap (entry line) {x = i} {y = i + 1 - 1} (omega arith) in
+    let here = c.in_default.ensures.value ∙ ap (entry line) {x = i} {y = i + 1 - 1} (omega arith) in
     sym
     (a_line line (sym c.is_line.ensures ∙ c.if-not-is_line.false)
     ∙ c.loop-i.invariant.tested
-    ∙ walk_refused (other_sort line) 82 (i + 1) (refusal 37 (i + 1) 0) (omega (arith, c.loop-i-test.true)) (sym (other_here line (i + 1) _ here c.if-value-gt-SIDE.true)) (eqb-false 37 0 refl))
+    ∙ walk_refused (other_sort line) 82 (i + 1) (refusal 37 (i + 1) 0) (omega (arith, c.loop-i-test.true)) (sym (other_here line (i + 1) _ here (omega arith))) (eqb-false 37 0 refl))
 
 pub loop-i-preserved : goal.loop-i-preserved
 loop-i-preserved c =
     let line = c.args.line.now in
     let turn = c.loop-i in
     let i = turn.i in
-    let here = c.cell_value-value.ensures ∙ ap (entry line) {x = i} {y = i + 1 - 1} (omega arith) in
+    let here = c.in-Some.ensures.value ∙ ap (entry line) {x = i} {y = i + 1 - 1} (omega arith) in
     record {
-      tested = turn.invariant.tested ∙ walk_more (other_sort line) 82 (i + 1) accepted (omega (arith, c.loop-i-test.true)) (sym (other_none line (i + 1) _ here c.if-value-gt-SIDE.false)) refl;
+      tested = turn.invariant.tested ∙ walk_more (other_sort line) 82 (i + 1) accepted (omega (arith, c.loop-i-test.true)) (sym (other_none line (i + 1) _ here c.in-Some.ensures.digit)) refl;
       long = length-set turn.digits i _ ∙ turn.invariant.long;
-      filled = ap (λ (v : ℕ). take (i + 1) (set turn.digits i v)) c.cell_value-value.ensures ∙ fill_more (entry line) turn.digits i (omega (arith, turn.invariant.long, c.loop-i-test.true)) turn.invariant.filled;
+      filled = ap (λ (v : ℕ). take (i + 1) (set turn.digits i v)) c.in-Some.ensures.value ∙ fill_more (entry line) turn.digits i (omega (arith, turn.invariant.long, c.loop-i-test.true)) turn.invariant.filled;
     }
 
 pub returns-clause-refusal : goal.returns-clause-refusal
