@@ -1,38 +1,21 @@
--- `record::write::count_givens` meets its contract: what was counted so far, and what is left.
+-- `record::write::count_givens` meets its contract: the flags that are set are counted.
 -- Assumes nothing.
-use Prim.Native.Nat.{◌<◌}
-use mathlib.Core.Path.{sym, ◌∙◌}
-use native.Mathlib.Nat.{zero-add, add-zero}
+use Prim.Native.Nat.{ℕ}
+use mathlib.Core.Path.{◌≡◌, ap, ◌∙◌}
+use mathlib.Core.Bool.{Bool}
 use native.Mathlib.Omega.{arith}
-use Rattle.puzzle.specs.Givens.{is_given}
+use Rattle.std.proofs.Common.{rules}
+use Rattle.std.specs.List.{count_by}
+use Rattle.puzzle.specs.Givens.{is_on, is_given}
 use Rattle.sudoku.specs.Tests.{count}
-use Rattle.sudoku.proofs.Walks.{count_more, count_skips, count_all}
+use Rattle.sudoku.proofs.Chains.{count_walk, at_place}
 use Rattle.record.proofs.write.count_givens.Goals as goal
-use Rattle.record.proofs.write.count_givens.Goals.{then-is_given, else-is_given}
-
-pub loop-cell-init : goal.loop-cell-init
-loop-cell-init c =
-    (omega arith, sym (zero-add (count (is_given c.args.given.now) 81 1)))
-
-pub loop-cell-preserved : goal.loop-cell-preserved
-loop-cell-preserved c =
-    let tested = c.is_given.ensures in
-    let f = is_given c.args.given.now in
-    let turn = c.loop-cell in
-    let u : turn.cell < 82 = omega arith in
-    elim c.if-is_given.branch [
-      | then-is_given w ↦ (
-        omega arith,
-        rw w.n-is (turn.invariant.1 ∙ count_more f 82 turn.cell turn.n u (sym tested ∙ w.if-is_given.true)),
-      )
-      | else-is_given w ↦ (
-        omega arith,
-        rw (w.n-is, ← count_skips f 82 turn.cell u (sym tested ∙ w.if-is_given.false)) turn.invariant.1,
-      )
-    ]
 
 pub returns : goal.returns
+unfolding is_given
 returns c =
-    let f = is_given c.args.given.now in
-    let turn = c.loop-cell in
-    (sym (turn.invariant.1 ∙ rw (count_all f 82 turn.cell (omega arith)) (add-zero turn.n)), omega arith)
+    let given = c.args.given.now in
+    let counted : c.count.result ≡ count_by is_on given = search rules in (
+      counted ∙ count_walk (is_given given) is_on given 1 (λ k l. ap is_on (at_place given k)) ∙ ap (λ (n : ℕ). count (is_given given) n 1) c.told-given,
+      search rules,
+    )
