@@ -1,6 +1,6 @@
 // Reading a record before anything is performed: its items in their order
 // (17), and what its counts, its givens and the solution say (18 to 27).
-ghost use Rattle.std.specs.Prelude.{◌≡◌, IfOk, IfErr};
+ghost use Rattle.std.specs.Prelude.{◌≡◌, IfOk};
 ghost use Rattle.puzzle.specs.Refusals.{told};
 ghost use Rattle.puzzle.specs.Code.Rows.{flat as flat_of};
 ghost use Rattle.record.specs.Errors.{reopen_refusal};
@@ -12,10 +12,9 @@ use crate::error::ReopenError;
 use crate::items::read_item;
 use crate::{Item, Phase, Progress, Read, Scanned};
 use journal::{MAX_CHECKS, MAX_MOVES};
+use puzzle::Layout;
 use puzzle::error::WellPosedError;
-use puzzle::given_bytes::is_ascending;
-use puzzle::vouch::vouch;
-use puzzle::{Layout, Refusal};
+use puzzle::given_bytes::GivenBytes;
 
 // One item more, counted where it may stand: givens, moves, the undone count once, checks.
 #[tactic(auto, unfolding(crate::specs::Code::Counting::item_step, crate::specs::Code::Counting::given_step, crate::specs::Code::Counting::move_step, crate::specs::Code::Counting::undone_step, crate::specs::Code::Counting::check_step, sudoku::specs::Tests::pick, sudoku::specs::Tests::either))]
@@ -114,22 +113,23 @@ fn miscounted(s: Scanned) -> Result<(), ReopenError>
 
 // Reads a record beside its solution before any move is performed: 17 to 27, or what the record counts.
 // 19 speaks of all givens of the record, however many they are.
-pub fn read_record(bytes: &[u8], rows: [[u8; 9]; 9]) -> Result<Scanned, Refusal>
-    ensures refusal { told (λ r. r) result ≡ unreadable bytes.now (flat_of rows) }
-    ensures numbered { IfErr result (λ r. r.number ≡ 0 → ⊥) }
+pub fn read_record(bytes: &[u8], rows: [[u8; 9]; 9]) -> Result<Scanned, ReopenError>
+    ensures refusal { told reopen_refusal result ≡ unreadable bytes.now (flat_of rows) }
     ensures counts { IfOk result (λ s. s ≡ counts_of (parts_of_bytes bytes.now)) }
 {
     let s = scan(bytes)?;
     if is_oversized(s) {
-        return Err(ReopenError::Oversized.into());
+        return Err(ReopenError::Oversized);
     }
-    if !is_ascending(bytes, Layout::Items, s.givens) {
+    let givens = GivenBytes {
+        bytes,
+        layout: Layout::Items,
+        count: s.givens,
+    };
+    if !givens.is_ascending() {
         return Err(WellPosedError::NotAscending.into());
     }
     miscounted(s)?;
-    let unsolved = vouch(bytes, Layout::Items, s.givens, rows);
-    if unsolved.number != 0 {
-        return Err(unsolved);
-    }
+    givens.vouch(rows)?;
     Ok(s)
 }

@@ -33,6 +33,8 @@ use Rattle.journal.specs.declared.Asked.{Asked}
 use Rattle.record.specs.declared.Scanned.{Scanned}
 use Rattle.record.specs.Items.{Parts, record_of}
 use Rattle.record.specs.Scan.{malformed, parts_of_bytes}
+use Rattle.record.specs.declared.error.ReopenError.{ReopenError}
+use Rattle.record.specs.Errors.{reopen_refusal}
 use Rattle.record.specs.Reopen.{oversized, unreadable, replay, take_back_all, to_play, checks_refusal, reopened, settled_record, replayed, reopen_of}
 use Rattle.record.specs.Code.Counting.{counts_of as counts_in}
 use Rattle.reopen.specs.Code.Reopening.{moves_at, asks_at, settled_by, reopened_of, Reopens}
@@ -44,19 +46,18 @@ use Rattle.reopen.proofs.Checking.{stored_of, to_play_same, checks_same}
 
 -- ---- answers
 
-module _ {E : Type 0} (f : E → Refusal) (o : Opened) (j c : List ℕ) where
-  pub reopens_refused : (r : Result Board E) (e : E) → r ≡ Err e → o ≡ turned_away (f e) → Reopens f o r j c
+module _ (o : Opened) (j c : List ℕ) where
+  pub reopens_refused : (r : Result Board ReopenError) (e : ReopenError) → r ≡ Err e → o ≡ turned_away (reopen_refusal e) → Reopens o r j c
   unfolding turned_away
   reopens_refused r e w q =
-      subst (λ (x : Result Board E). Reopens f o x j c) (sym w)
+      subst (λ (x : Result Board ReopenError). Reopens o x j c) (sym w)
       (record { refusal = sym (ap (λ (y : Opened). y.answer.refusal) q); rest = tt })
 
-  pub reopens_given : (b : Board) → Gives o (answer accepted b) j c → Reopens f o (Ok b) j c
+  pub reopens_given : (b : Board) → Gives o (answer accepted b) j c → Reopens o (Ok b) j c
   reopens_given b g = record { refusal = ap (λ (x : Answer). x.refusal) g.answer; rest = g }
 
-pub reopens_same : {E F : Type 0} (f : E → Refusal) (g : F → Refusal) (o p : Opened) (b : Board) (j c : List ℕ) → o ≡ p → Reopens f p (Ok b) j c → Reopens g o (Ok b) j c
-reopens_same f g o p b j c e h =
-    subst (λ (x : Opened). Reopens g x (Ok b) j c) (sym e) (record { refusal = h.refusal; rest = h.rest })
+pub reopens_same : (o p : Opened) (r : Result Board ReopenError) (j c : List ℕ) → o ≡ p → Reopens p r j c → Reopens o r j c
+reopens_same o p r j c e g = subst (λ (x : Opened). Reopens x r j c) (sym e) g
 
 pub no_moves_length : length no_moves ≡ journal_bytes
 unfolding no_moves

@@ -2,7 +2,7 @@
 // 29), the undone ones taken back (30), then the checks (31 to 33).
 #![tactic(auto)]
 
-ghost use Rattle.std.specs.Prelude.{◌≡◌, not, map, ◌-◌, ◌*◌, ◌≤◌, eqb, length, IfOk, IfErr};
+ghost use Rattle.std.specs.Prelude.{◌≡◌, not, map, ◌-◌, ◌*◌, ◌≤◌, eqb, length, IfOk};
 ghost use Rattle.sudoku.specs.Tests.{both};
 ghost use Rattle.puzzle.specs.Givens.{is_on};
 ghost use Rattle.puzzle.specs.Refusals.{told};
@@ -26,10 +26,10 @@ use journal::steps::after_record;
 use journal::{Asked, Counts, Move};
 use play::moves::make_in;
 use play::tests::move_test;
+use puzzle::Layout;
 use puzzle::answer::accepted;
 use puzzle::given_bytes::GivenBytes;
 use puzzle::vouch::rows_of;
-use puzzle::{Layout, Refusal};
 use record::error::ReopenError;
 use record::items::{asked_at, move_at};
 use record::scan::read_record;
@@ -199,14 +199,20 @@ fn settle(
     checks: &mut [u8],
 ) -> Result<Board, ReopenError>
     requires { (count ≤ max_checks) × (check_item_bytes * count ≤ length bytes.now) × (checks.old ≡ no_checks) }
-    ensures { Reopens reopen_refusal (settled_by undone (asks_at bytes.now (length bytes.now - check_item_bytes * count) count) board journal.now) result journal.now checks.new }
+    ensures { Reopens (settled_by undone (asks_at bytes.now (length bytes.now - check_item_bytes * count) count) board journal.now) result journal.now checks.new }
 {
     if is_undone_solved(board.solved, undone) {
         return Err(ReopenError::UndoneWhenSolved);
     }
     let mut back = board;
     take_back_all(undone, &mut back, &journal);
-    read_checks(bytes, bytes.len() - CHECK_ITEM * count, count, &back, checks)?;
+    read_checks(
+        bytes,
+        bytes.len() - CHECK_ITEM * count,
+        count,
+        &back,
+        checks,
+    )?;
     back.checks = count;
     Ok(back)
 }
@@ -218,10 +224,9 @@ fn reopened(
     solution: &[u8],
     journal: &mut [u8],
     checks: &mut [u8],
-) -> Result<Board, Refusal>
+) -> Result<Board, ReopenError>
     requires { (length solution.now ≡ 81) × (journal.old ≡ no_moves) × (checks.old ≡ no_checks) }
-    ensures reopens { Reopens (λ r. r) (reopened_of bytes.now solution.now) result journal.new checks.new }
-    ensures numbered { IfErr result (λ r. r.number ≡ 0 → ⊥) }
+    ensures { Reopens (reopened_of bytes.now solution.now) result journal.new checks.new }
 {
     let rows = rows_of(solution);
     let s = read_record(bytes, rows)?;
@@ -232,8 +237,7 @@ fn reopened(
     };
     let board = Board::fresh(givens, rows);
     let last = replay(bytes, GIVEN_ITEM * s.givens, s.moves, board, journal)?;
-    let settled = settle(bytes, s.undone, s.checks, last, journal, checks)?;
-    Ok(settled)
+    settle(bytes, s.undone, s.checks, last, journal, checks)
 }
 
 // Reopens a record. A refusal by anything but 1 leaves both memories zero.
@@ -250,11 +254,11 @@ pub fn reopen(bytes: &[u8], solution: &[u8], journal: &mut [u8], checks: &mut [u
             refusal: accepted(),
             board,
         },
-        Err(refused) => {
+        Err(e) => {
             clear(journal);
             clear(checks);
             Answer {
-                refusal: refused,
+                refusal: e.into(),
                 board: zero_board(),
             }
         }

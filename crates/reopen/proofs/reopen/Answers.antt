@@ -3,6 +3,7 @@
 -- Assumes nothing.
 use mathlib.Core.Path.{refl, sym, ◌∙◌}
 use Rattle.board.specs.Open.{lent_lengths}
+use Rattle.record.proofs.Errors.{reopen_numbered}
 use Rattle.reopen.proofs.Settling.{wrong_lent, solution_length, journal_zero, checks_zero, lent_refused, lent_given}
 use Rattle.reopen.proofs.reopen.Goals as goal
 
@@ -24,14 +25,14 @@ unfolding lent_lengths
 returns-in-Ok c =
     let a = c.args in
     let lengths = sym c.lent_lengths.ensures ∙ c.if-not-lent_lengths.false in
-    rw c.accepted.ensures (lent_given a.bytes.now a.solution.now a.journal.now a.checks.now lengths _ _ _ c.in-Ok.ensures.reopens.rest)
+    rw c.accepted.ensures (lent_given a.bytes.now a.solution.now a.journal.now a.checks.now lengths _ _ _ c.in-Ok.ensures.rest)
 
 pub returns-in-Err : goal.returns-in-Err
 unfolding lent_lengths
 returns-in-Err c =
     let a = c.args in
     let lengths = sym c.lent_lengths.ensures ∙ c.if-not-lent_lengths.false in
-    let told = c.in-Err.ensures in
-    lent_refused a.bytes.now a.solution.now a.journal.now a.checks.now lengths _ told.reopens.refusal told.numbered _ _ _ c.zero_board.ensures
+    rw c.into.ensures
+    (lent_refused a.bytes.now a.solution.now a.journal.now a.checks.now lengths _ c.in-Err.ensures.refusal (reopen_numbered c.in-Err.e) _ _ _ c.zero_board.ensures
     (journal_zero a.bytes.now a.solution.now a.journal.now a.checks.now lengths _ _ (c.reopened.auto.journal ∙ c.clear.auto.memory) c.clear-in-Err.ensures)
-    (checks_zero a.bytes.now a.solution.now a.journal.now a.checks.now lengths _ _ (c.reopened.auto.checks ∙ c.clear-2.auto.memory) c.clear-in-Err-2.ensures)
+    (checks_zero a.bytes.now a.solution.now a.journal.now a.checks.now lengths _ _ (c.reopened.auto.checks ∙ c.clear-2.auto.memory) c.clear-in-Err-2.ensures))

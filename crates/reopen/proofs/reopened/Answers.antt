@@ -1,11 +1,6 @@
 -- `reopen::reopened` meets its contract: not read, a move refused, or what settling answers.
 -- Assumes nothing.
-use mathlib.Core.Path.{◌≡◌, sym, ap, subst, ◌∙◌}
-use Rattle.std.specs.Prelude.{Result, Err}
-use Rattle.puzzle.specs.declared.Refusal.{Refusal}
-use Rattle.board.specs.declared.Board.{Board}
-use Rattle.board.specs.Open.{Opened}
-use Rattle.reopen.specs.Code.Reopening.{reopened_of, Reopens}
+use mathlib.Core.Path.{◌≡◌, ap, ◌∙◌}
 use native.Mathlib.Omega.{arith}
 use lib.ListN.{length}
 use Rattle.std.proofs.lemmas.Result.{err_from_is_err_and}
@@ -21,13 +16,13 @@ use Rattle.record.proofs.WriteBack.{are_bytes}
 use Rattle.reopen.proofs.Settling.{reopens_refused, reopens_same, no_moves_length, unread, few_moves, few_checks_lem, givens_inside, checks_inside, none_stand, unplayed, plays_on}
 use Rattle.reopen.proofs.reopened.Goals as goal
 
-pub returns-in_err-s-clause-reopens : goal.returns-in_err-s-clause-reopens
-returns-in_err-s-clause-reopens c =
+pub returns-in_err-s : goal.returns-in_err-s
+returns-in_err-s c =
     let a = c.args in
     let laid = laid_out c.rows_of-rows.result a.solution.now c.rows_of-rows.ensures c.requires.0 in
     let p = err_from_is_err_and c.from_residual.result c.from_residual.ensures.1 in
     let e = c.in_err-s.field-0.0 in
-    reopens_refused (λ r. r) _ _ _ _ e (rw p.2 at p.1) (unread a.bytes.now a.solution.now e (c.in_err-s.ensures.refusal ∙ ap (unreadable a.bytes.now) laid) c.in_err-s.ensures.numbered)
+    reopens_refused _ _ _ _ e (rw p.2 at p.1) (unread a.bytes.now a.solution.now (reopen_refusal e) (c.in_err-s.ensures.refusal ∙ ap (unreadable a.bytes.now) laid) (reopen_numbered e))
 
 pub overflow_mul-s : goal.overflow_mul-s
 overflow_mul-s c =
@@ -53,8 +48,8 @@ replay-requires c =
       ap length none ∙ no_moves_length,
     )
 
-pub returns-in_err-last-clause-reopens : goal.returns-in_err-last-clause-reopens
-returns-in_err-last-clause-reopens c =
+pub returns-in_err-last : goal.returns-in_err-last
+returns-in_err-last c =
     let a = c.args in
     let laid = laid_out c.rows_of-rows.result a.solution.now c.rows_of-rows.ensures c.requires.0 in
     let was_read = c.in_ok-s.ensures in
@@ -63,7 +58,7 @@ returns-in_err-last-clause-reopens c =
     let made = c.fresh-board.ensures ∙ ap (fresh (givens_in Items a.bytes.now c.in_ok-s.s.givens)) laid in
     let p = err_from_is_err_and c.from_residual-in_err-last.result c.from_residual-in_err-last.ensures.1 in
     let e = c.in_err-last.field-0.0 in
-    reopens_refused (λ r. r) _ _ _ _ (reopen_refusal e) (rw p.2 at p.1)
+    reopens_refused _ _ _ _ e (rw p.2 at p.1)
     (unplayed a.bytes.now a.solution.now well c.in_ok-s.s was_read.counts are c.fresh-board.result made a.journal.now c.requires.1 (reopen_refusal e) c.in_err-last.ensures.refusal (reopen_numbered e))
 
 pub settle-requires : goal.settle-requires
@@ -76,8 +71,8 @@ settle-requires c =
     (few_checks_lem a.bytes.now a.solution.now well c.in_ok-s.s was_read.counts are, checks_inside a.bytes.now a.solution.now well c.in_ok-s.s was_read.counts are, c.requires.2)
 
 -- what settling answers from the board after the last move
-pub returns-in_err-settled-clause-reopens : goal.returns-in_err-settled-clause-reopens
-returns-in_err-settled-clause-reopens c =
+pub returns : goal.returns
+returns c =
     let a = c.args in
     let laid = laid_out c.rows_of-rows.result a.solution.now c.rows_of-rows.ensures c.requires.0 in
     let was_read = c.in_ok-s.ensures in
@@ -86,19 +81,4 @@ returns-in_err-settled-clause-reopens c =
     let made = c.fresh-board.ensures ∙ ap (fresh (givens_in Items a.bytes.now c.in_ok-s.s.givens)) laid in
     let played = c.in_ok-last.ensures in
     let on = plays_on a.bytes.now a.solution.now well c.in_ok-s.s was_read.counts are c.fresh-board.result made a.journal.now c.requires.1 played.refusal _ _ played.played.0 played.played.1 in
-    let p = err_from_is_err_and c.from_residual-in_err-settled.result c.from_residual-in_err-settled.ensures.1 in
-    let settled : Reopens reopen_refusal _ (Err c.in_err-settled.field-0.0) _ _ = c.in_err-settled.ensures in
-    subst (λ (x : Result Board Refusal). Reopens (λ r. r) (reopened_of a.bytes.now a.solution.now) x c.replay.new.journal c.settle.new.checks) (sym (rw p.2 at p.1))
-    (record { refusal = settled.refusal ∙ sym (ap (λ (x : Opened). x.answer.refusal) on); rest = tt })
-
-pub returns-clause-reopens : goal.returns-clause-reopens
-returns-clause-reopens c =
-    let a = c.args in
-    let laid = laid_out c.rows_of-rows.result a.solution.now c.rows_of-rows.ensures c.requires.0 in
-    let was_read = c.in_ok-s.ensures in
-    let well : accepted ≡ unreadable a.bytes.now a.solution.now = was_read.refusal ∙ ap (unreadable a.bytes.now) laid in
-    let are = are_bytes a.bytes.now (λ i u. omega (arith, c.type_inv.bytes i)) in
-    let made = c.fresh-board.ensures ∙ ap (fresh (givens_in Items a.bytes.now c.in_ok-s.s.givens)) laid in
-    let played = c.in_ok-last.ensures in
-    let on = plays_on a.bytes.now a.solution.now well c.in_ok-s.s was_read.counts are c.fresh-board.result made a.journal.now c.requires.1 played.refusal _ _ played.played.0 played.played.1 in
-    reopens_same reopen_refusal (λ r. r) _ _ _ _ _ on c.in_ok-settled.ensures
+    reopens_same _ _ _ _ _ on c.settle.ensures

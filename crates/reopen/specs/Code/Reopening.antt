@@ -13,7 +13,9 @@ use Rattle.board.specs.declared.Board.{Board}
 use Rattle.board.specs.Open.{answer, Opened, Gives, turned_away}
 use Rattle.play.specs.Play.{move_tests}
 use Rattle.journal.specs.declared.Asked.{Asked}
+use Rattle.record.specs.declared.error.ReopenError.{ReopenError}
 use Rattle.record.specs.declared.Item.TheVariants.{Played as PlayedItem}
+use Rattle.record.specs.Errors.{reopen_refusal}
 use Rattle.record.specs.Items.{encode}
 use Rattle.record.specs.Scan.{parts_of_bytes}
 use Rattle.record.specs.Code.Counting.{move_at, asked_from}
@@ -54,6 +56,6 @@ reopened_of bytes solution =
     pick (is_accepted r) (replayed (parts_of_bytes bytes) solution) (turned_away r)
 
 -- what is answered refuses as `o` does, or it is o's board, and the memory is o's
-pub record Reopens {E : Type 0} (f : E → Refusal) (o : Opened) (r : Result Board E) (j c : List ℕ) : Type 0 where
-  pub refusal : told f r ≡ o.answer.refusal
+pub record Reopens (o : Opened) (r : Result Board ReopenError) (j c : List ℕ) : Type 0 where
+  pub refusal : told reopen_refusal r ≡ o.answer.refusal
   pub rest : IfOk r (λ b. Gives o (answer accepted b) j c)
