@@ -1,7 +1,8 @@
--- The laws of a run: one group more, and none left.
+-- The laws of a run: what each kind of call leaves, one group more, and none left.
 -- Assumes nothing.
 use Prim.Native.Nat.{ℕ, zero, suc, ◌+◌, ◌-◌, ◌*◌, ◌≤◌, ◌<◌}
 use mathlib.Core.Path.{◌≡◌, refl, sym, ap, ◌∙◌}
+use mathlib.Core.Bool.{false}
 use mathlib.Core.List.{List, ◌++◌}
 use native.Mathlib.Nat.{sub-eq-zero_of_le}
 use native.Mathlib.Numerals.{add-one}
@@ -9,11 +10,41 @@ use native.Mathlib.Omega.{arith}
 use lib.ListN.{length}
 use Rattle.sudoku.specs.Tests.{listed}
 use Rattle.sudoku.proofs.Walks.{left_one}
+use Rattle.journal.specs.declared.Move.{Move}
 use Rattle.journal.specs.Bytes.{over}
 use Rattle.journal.proofs.Memory.{over_nil, over_join}
-use Rattle.calls.specs.Session.{Session, Said}
-use Rattle.calls.specs.Encoded.{call_bytes, decode_at, run_one, left_by, said_to, answer_bytes, answers_bytes, Ran, ran, run_from}
+use Rattle.board.specs.declared.Board.{Board}
+use Rattle.board.specs.declared.Answer.{Answer}
+use Rattle.board.specs.declared.Checked.{Checked}
+use Rattle.play.specs.Play.{play_of, undo_of, redo_of}
+use Rattle.play.specs.Check.{check_of}
+use Rattle.calls.specs.declared.Call.TheVariants.{Make, Undo, Redo, Check}
+use Rattle.calls.specs.Session.{Session, Said, called, call_of}
+use Rattle.calls.specs.Encoded.{call_bytes, session, decode_at, run_one, left_by, said_to, answer_bytes, answers_bytes, Ran, ran, run_from}
 use Rattle.calls.specs.Code.Running.{answered_at, run_at}
+
+-- ---- what a call answers and leaves: nothing else of the session changes
+
+module _ (b : Board) (journal checks : List ℕ) where
+  pub makes : (m : Move) (a : Answer) (after : List ℕ) → (a ≡ (play_of b journal m).answer) × (after ≡ (play_of b journal m).journal)
+      → called a.refusal false a.board after checks ≡ call_of (session b journal checks) (Make m)
+  unfolding call_of
+  makes m a after p = λ i. called (p.0 i).refusal false (p.0 i).board (p.1 i) checks
+
+  pub undoes : (a : Answer) → a ≡ undo_of b journal → called a.refusal false a.board journal checks ≡ call_of (session b journal checks) Undo
+  unfolding call_of
+  undoes a p = λ i. called (p i).refusal false (p i).board journal checks
+
+  pub redoes : (a : Answer) → a ≡ redo_of b journal → called a.refusal false a.board journal checks ≡ call_of (session b journal checks) Redo
+  unfolding call_of
+  redoes a p = λ i. called (p i).refusal false (p i).board journal checks
+
+  pub checks_it : (row column : ℕ) (r : Checked) (after : List ℕ) → (r ≡ (check_of b checks row column).answer) × (after ≡ (check_of b checks row column).checks)
+      → called r.refusal r.right r.board journal after ≡ call_of (session b journal checks) (Check row column)
+  unfolding call_of
+  checks_it row column r after p = λ i. called (p.0 i).refusal (p.0 i).right (p.0 i).board journal (p.1 i)
+
+-- ---- one group more, and none left
 
 -- four bytes for each group
 pub length_answers : (calls : List ℕ) (s : Session) (n i : ℕ) → length (answers_bytes (said_to s (listed (decode_at calls) n i))) ≡ call_bytes * n
