@@ -73,7 +73,7 @@ pub fn lent_lengths(solution: usize, journal: usize, checks: usize) -> bool
     journal == JOURNAL_BYTES && checks == CHECK_MEMORY && solution == CELLS
 }
 
-// The answer to number 1.
+// The answer to number 1. A struct and no Result: C gets it as it is.
 pub fn wrong_length() -> Answer
     ensures { result ≡ answer (refusal_of 1 0 0) zero_board }
 {
