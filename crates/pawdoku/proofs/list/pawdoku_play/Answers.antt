@@ -1,6 +1,6 @@
 -- `pawdoku::list::pawdoku_play` meets its contract: what is left of the run is run from what the last call left.
 -- Assumes nothing.
-use Prim.Native.Nat.{ℕ, ◌*◌, ◌≤◌}
+use Prim.Native.Nat.{ℕ, ◌+◌, ◌*◌, ◌≤◌}
 use mathlib.Core.Path.{◌≡◌, sym, ap, ◌∙◌}
 use mathlib.Core.List.{List}
 use native.Mathlib.Omega.{arith}
@@ -31,10 +31,10 @@ loop-i-preserved c =
     let room : call_bytes * c.groups-end.result ≤ length c.loop-i.answers = omega (arith, c.groups-end.ensures.2, c.loop-i.auto.answers) in
     let long : length bytes ≡ call_bytes = omega (arith, ap length same, ap length left.answer_after) in
     let start = call_bytes * c.loop-i.i in
+    let fits : start + length bytes ≤ length c.loop-i.answers = omega (arith, room, long, c.loop-i-test.true) in
+    let laid = copied c.loop-i.answers start _ bytes (omega (arith, long)) fits ∙ laid_over c.loop-i.answers start bytes fits in
     c.loop-i.invariant
-    ∙ run_more _ _ _ _ _ _
-    (one_run _ _ _ _ _ _ _ _ c.decode_at.ensures left.left (same ∙ left.answer_after) (copied c.loop-i.answers start _ bytes (omega (arith, long)) (omega (arith, room, long, c.loop-i-test.true)) ∙ laid_over c.loop-i.answers start bytes (omega (arith, room, long, c.loop-i-test.true))))
-    c.loop-i-test.true room
+    ∙ run_more _ _ _ _ _ _ (one_run _ _ _ _ _ _ _ _ c.decode_at.ensures left.left (same ∙ left.answer_after) laid) c.loop-i-test.true room
 
 pub returns-clause-answers_after : goal.returns-clause-answers_after
 unfolding run_of
