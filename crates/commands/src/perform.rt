@@ -18,7 +18,7 @@ use print::deeds::{made, verdict};
 use print::drawing::{keys, position, whole};
 use print::words::explain;
 use print::{Printable, say, show};
-use puzzle::digit_at;
+use puzzle::{Refusal, digit_at};
 use readings::read::reading;
 use record::RECORD_BYTES;
 use record::write::write;
@@ -141,17 +141,21 @@ fn move_named(verb: Verb, n: Numbers) -> Move
     }
 }
 
+// Whether a call was accepted; says why where it was refused.
+fn is_accepted(refused: Refusal) -> bool {
+    if refused.number != 0 {
+        explain(refused);
+    }
+    refused.number == 0
+}
+
 // The board's own line: its givens, whatever was played.
 fn show_line(board: Board) {
     let mut line = [0u8; LINE_BYTES];
-    let written = write_line(board, &mut line);
-    let refused = written.refusal;
-    if refused.number != 0 {
-        explain(refused);
-        return;
+    if is_accepted(write_line(board, &mut line).refusal) {
+        say(&line);
+        show("\n");
     }
-    say(&line);
-    show("\n");
 }
 
 impl Game {
@@ -160,12 +164,9 @@ impl Game {
         ensures { played self.new ≡ record (played self.old) { board = answer.board } }
     {
         self.board = answer.board;
-        let refused = answer.refusal;
-        if refused.number != 0 {
-            explain(refused);
-            return;
+        if is_accepted(answer.refusal) {
+            whole(self.board, coloured);
         }
-        whole(self.board, coloured);
     }
 
     // One of the four moves.
@@ -212,9 +213,7 @@ impl Game {
         };
         let answer = check(self.board, &mut self.memory.checks, n.row, n.column);
         self.board = answer.board;
-        let refused = answer.refusal;
-        if refused.number != 0 {
-            explain(refused);
+        if !is_accepted(answer.refusal) {
             return;
         }
         whole(self.board, coloured);
@@ -249,13 +248,10 @@ impl Game {
             return;
         };
         let r = reading(self.board, &self.memory.journal, k);
-        let refused = r.refusal;
-        if refused.number != 0 {
-            explain(refused);
-            return;
+        if is_accepted(r.refusal) {
+            position(&r.digits, &self.board.given, &r.notes, coloured);
+            made(k, slot_at(&self.memory.journal, k), r.undone);
         }
-        position(&r.digits, &self.board.given, &r.notes, coloured);
-        made(k, slot_at(&self.memory.journal, k), r.undone);
     }
 
     // Saves the game under a name.
@@ -271,9 +267,7 @@ impl Game {
             &self.memory.checks,
             &mut out,
         );
-        let refused = written.refusal;
-        if refused.number != 0 {
-            explain(refused);
+        if !is_accepted(written.refusal) {
             return;
         }
         let record = out.get(..written.length).unwrap_or(&[]);
