@@ -3,8 +3,7 @@
 -- Assumes nothing.
 use Rattle.std.specs.Prelude.{ℕ, ◌<◌, ◌≡◌, Bool, List, Option, Some, None, eqb, length}
 use Rattle.sudoku.specs.Tests.{pick, both}
-use Rattle.texts.specs.declared.Cells.{Cells}
-use Rattle.texts.specs.Grids.{cells_of}
+use Rattle.texts.specs.Grids.{Cells, cells_of}
 
 -- bytes of the buffer that a file is read into
 abbrev pub file_bytes : ℕ

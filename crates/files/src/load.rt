@@ -41,7 +41,7 @@ impl Memory {
         if is_record(bytes) {
             return reopen(bytes, right, &mut self.journal, &mut self.checks);
         }
-        let givens = givens_of(&cells(bytes).cells);
+        let givens = givens_of(&cells(bytes));
         let front = part(&givens.bytes, 0, givens.length);
         open(front, right, &mut self.journal, &mut self.checks)
     }

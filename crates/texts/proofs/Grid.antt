@@ -5,9 +5,8 @@ use borrow.Author.Tests.{ne_eqb, lt-ltb, le-ltb, lt-leb, le-leb}
 use Rattle.sudoku.specs.Tests.{pick, run}
 use Rattle.sudoku.proofs.Walks.{pick_false, run_more, run_all}
 use Rattle.puzzle.specs.Text.{cell_value}
-use Rattle.texts.specs.declared.Cells.{Cells}
 use Rattle.texts.specs.declared.CellsError.TheVariants.{Wrong, Many, Few}
-use Rattle.texts.specs.Grids.{is_space, so_far, no_cells, with_cell, with_character, cells_of, judged, grid_of}
+use Rattle.texts.specs.Grids.{Cells, is_space, so_far, no_cells, with_cell, with_character, cells_of, judged}
 
 abbrev pub step : List ℕ → Cells → ℕ → Cells
 step text s i = with_character s (i + 1) (get_or text i 0)
@@ -42,28 +41,31 @@ module _ (text cells : List ℕ) (count i : ℕ) (leads : Leads text cells count
     unfolding with_character pick
     by_cell e value v h after m w = next (so_far after m) (simp (e, sym v, le-leb _ _ h) (sym w))
 
-    pub by_wrong : is_space (get_or text i 0) ≡ false → (value : ℕ) → value ≡ cell_value (get_or text i 0) → 9 < value → Err (Wrong (i + 1)) ≡ grid_of text
-    unfolding with_character grid_of cells_of judged pick
+    pub by_wrong : is_space (get_or text i 0) ≡ false → (value : ℕ) → value ≡ cell_value (get_or text i 0) → 9 < value → cells_of text ≡ record { cells = cells; count = count; wrong = i + 1 }
+    unfolding with_character cells_of pick
     by_wrong e value v h =
         let s : Cells = record { cells = cells; count = count; wrong = i + 1 } in
-        let not_none : i + 1 ≡ 0 → ⊥ = λ e. omega arith in
-        sym
-        (ap judged (next s (simp (e, sym v, lt-leb _ _ h)) ∙ run_wrong text s (length text - (i + 1)) (i + 1) not_none)
-        ∙ pick_false _ _ _ (ne_eqb (i + 1) 0 not_none))
+        next s (simp (e, sym v, lt-leb _ _ h)) ∙ run_wrong text s (length text - (i + 1)) (i + 1) (λ z. omega arith)
 
-  module _ (end : length text ≤ i) where
-    all : cells_of text ≡ so_far cells count
-    unfolding cells_of
-    all = leads ∙ run_all (step text) (so_far cells count) (length text) i end
+  pub by_all : length text ≤ i → cells_of text ≡ so_far cells count
+  unfolding cells_of
+  by_all end = leads ∙ run_all (step text) (so_far cells count) (length text) i end
 
-    pub by_few : count < 81 → Err (Few count) ≡ grid_of text
-    unfolding grid_of judged pick
-    by_few h = sym (ap judged all ∙ simp (lt-ltb _ _ h))
+-- ---- what was found, judged
 
-    pub by_all : count ≡ 81 → Ok cells ≡ grid_of text
-    unfolding grid_of judged pick
-    by_all h = sym (ap judged all ∙ simp h)
+module _ (found : Cells) (cells : List ℕ) (count : ℕ) where
+  pub is_wrong : (i : ℕ) → found ≡ record { cells = cells; count = count; wrong = i + 1 } → Err (Wrong (i + 1)) ≡ judged found
+  unfolding judged
+  is_wrong i e = sym (ap judged e ∙ pick_false _ _ _ (ne_eqb (i + 1) 0 (λ z. omega arith)))
 
-    pub by_many : 81 < count → Err Many ≡ grid_of text
-    unfolding grid_of judged pick
-    by_many h = sym (ap judged all ∙ simp (le-ltb count 81 (omega arith), ne_eqb count 81 (λ e. omega arith)))
+  pub is_few : count < 81 → found ≡ so_far cells count → Err (Few count) ≡ judged found
+  unfolding judged pick
+  is_few h e = sym (ap judged e ∙ simp (lt-ltb _ _ h))
+
+  pub is_all : count ≡ 81 → found ≡ so_far cells count → Ok cells ≡ judged found
+  unfolding judged pick
+  is_all h e = sym (ap judged e ∙ simp h)
+
+  pub is_many : 81 < count → found ≡ so_far cells count → Err Many ≡ judged found
+  unfolding judged pick
+  is_many h e = sym (ap judged e ∙ simp (le-ltb count 81 (omega arith), ne_eqb count 81 (λ z. omega arith)))

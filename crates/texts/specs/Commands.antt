@@ -1,10 +1,8 @@
 -- A line of the console taken apart: the letter of its command, and the words after it.
 -- Assumes nothing.
-use Rattle.std.specs.Prelude.{ℕ, ◌+◌, ◌-◌, ◌*◌, Bool, not, List, [], ◌∷◌, Option, Some, None, option_and_then, unwrap_or, ltb, leb, eqb, length, get_or, take, drop}
+use Rattle.std.specs.Prelude.{ℕ, ◌+◌, ◌-◌, ◌*◌, Bool, not, List, [], ◌∷◌, Option, Some, None, option_and_then, ltb, leb, eqb, length, get_or, take, drop}
 use Rattle.std.specs.List.{position_or_len}
 use Rattle.sudoku.specs.Tests.{pick, both, either, bit, every, ◌⇒◌, first}
-use Rattle.texts.specs.Parts.{part_of}
-use Rattle.texts.specs.declared.Word.{Word}
 use Rattle.texts.specs.declared.Verb.{Verb}
 use Rattle.texts.specs.declared.Verb.TheVariants.{Place, Erase, Mark, Strike, Undo, Redo, Check, Latest, Next, Move, Left, Board, Save, Open, Puzzle, Line, Help, Quit, NoWord, Unknown}
 use Rattle.texts.specs.declared.Command.{Command}
@@ -46,13 +44,6 @@ with_figures n (byte ∷ text) = option_and_then (λ m. with_figures m text) (wi
 -- the number that a text says; an empty one says none
 unfoldable pub number_of : List ℕ → Option ℕ
 number_of text = pick (eqb (length text) 0) None (with_figures 0 text)
-
--- what is no number; more than any number of a line counts as
-abbrev pub no_number : ℕ
-no_number = 100000
-
-unfoldable pub value_of : List ℕ → Word → ℕ
-value_of line w = unwrap_or (number_of (part_of line w.start w.end)) no_number
 
 -- the letters of the commands by their names; 0 for another name. Of play: place p, erase e, mark m, strike s, undo u,
 -- redo r, check c

@@ -4,13 +4,19 @@
 use Rattle.std.specs.Prelude.{ℕ, ◌+◌, Bool, List, Result, Ok, Err, ltb, leb, eqb, length, get_or, set, replicate}
 use Rattle.sudoku.specs.Tests.{pick, both, either, run}
 use Rattle.puzzle.specs.Text.{cell_value}
-use Rattle.texts.specs.declared.Cells.{Cells}
 use Rattle.texts.specs.declared.CellsError.{CellsError}
 use Rattle.texts.specs.declared.CellsError.TheVariants.{Wrong, Many, Few}
 
 -- blank, tab, line end and the like
 unfoldable pub is_space : ℕ → Bool
 is_space byte = either (eqb byte 32) (both (leb 9 byte) (leb byte 13))
+
+-- what is found in a text: how many cells (82 where there are more than 81), the first 81 of them, and the first character
+-- that is neither a cell nor white space, counted from 1; 0 where there is none
+pub record Cells : Type 0 where
+  pub cells : List ℕ
+  pub count : ℕ
+  pub wrong : ℕ
 
 unfoldable pub no_cells : Cells
 no_cells = record { cells = replicate 81 0; count = 0; wrong = 0 }

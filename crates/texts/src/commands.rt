@@ -2,12 +2,9 @@
 ghost use Rattle.std.specs.Prelude.{◌≡◌, ◌≤◌, not, length};
 ghost use Rattle.std.specs.List.{position_or_len};
 ghost use Rattle.sudoku.specs.Tests.{pick, either, both, bit};
-ghost use Rattle.texts.specs.Commands.{is_same, is_blank, word_of, behind_word, counted, with_figure, number_of, value_of, verb_of_play, verb_of_rest, verb_of, verb_of_letter, found, line_verb, request, command_of};
+ghost use Rattle.texts.specs.Commands.{is_same, is_blank, word_of, behind_word, counted, with_figure, number_of, verb_of_play, verb_of_rest, verb_of, verb_of_letter, found, line_verb, request, command_of};
 
-use crate::{Command, Verb, Word, part};
-
-// What is no number, and more than any number of a line counts as; until its callers have moved.
-pub const NO_NUMBER: usize = 100000;
+use crate::{Command, Verb};
 
 // Whether two texts are the same. The two sides of == have one type, which a text and a name have here.
 fn same(a: &[u8], b: &[u8]) -> bool
@@ -74,14 +71,6 @@ pub fn number(text: &[u8]) -> Option<usize>
         n = with_figure(n, *byte)?;
     }
     Some(n)
-}
-
-// The number that a word says; until its callers have moved.
-#[tactic(auto, unfolding(crate::specs::Commands::value_of))]
-pub fn value(line: &[u8], w: Word) -> usize
-    ensures { result ≡ value_of line.now w }
-{
-    number(part(line, w.start, w.end)).unwrap_or(NO_NUMBER)
 }
 
 // The command of a letter.

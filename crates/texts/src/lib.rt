@@ -8,15 +8,6 @@ ghost use Rattle.texts.specs.Parts.{part_of};
 pub mod commands;
 pub mod grids;
 
-// Until its callers have moved: the cells of a text: how many there are (82 where there are more than 81), the first 81 of them, and the first
-// character that is neither a cell nor white space, counted from 1; 0 where there is none.
-#[derive(Clone, Copy)]
-pub struct Cells {
-    pub cells: [u8; 81],
-    pub count: usize,
-    pub wrong: usize,
-}
-
 // Why a text is not 81 cells: its first character, counted from 1, that is neither a cell nor white space; or that it has
 // more cells, or how many it has.
 #[derive(Clone, Copy, PartialEq, Eq)]
@@ -24,13 +15,6 @@ pub enum CellsError {
     Wrong { character: usize },
     Many,
     Few { count: usize },
-}
-
-// A word of a line: where it starts, and where it ends; until its callers have moved.
-#[derive(Clone, Copy)]
-pub struct Word {
-    pub start: usize,
-    pub end: usize,
 }
 
 // The commands of a player, and what stands for one where a line has no word, or one that is no command.
@@ -70,14 +54,9 @@ pub struct Command<'a> {
 }
 
 // The part of some bytes from `start` on, before `end`; none where they have no such part.
+#[tactic(auto, unfolding(crate::specs::Parts::part_of, sudoku::specs::Tests::pick, sudoku::specs::Tests::both))]
 pub fn part(bytes: &[u8], start: usize, end: usize) -> &[u8]
     ensures { result.now ≡ part_of bytes.now start end }
 {
-    if start > end {
-        return &bytes[0..0];
-    }
-    if end > bytes.len() {
-        return &bytes[0..0];
-    }
-    &bytes[start..end]
+    bytes.get(start..end).unwrap_or(&[])
 }
