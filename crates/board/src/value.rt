@@ -27,8 +27,8 @@ fn cell_value(digit: u8, given: u8, right: u8) -> bool
     (digit <= SIDE) & (given <= greatest_flag(digit)) & in_range(right)
 }
 
-// The digits, the flags and the solution are asked in one loop: in two it takes a nanosecond more in every call. It goes
-// by index, since the proof over three arrays zipped did not close.
+// The digits, the flags and the solution are asked in one loop: in two it takes a nanosecond more in every call.
+// It goes by index, since the proof over three arrays zipped did not close.
 fn cell_values(digits: &[u8; 81], given: &[u8; 81], solution: &[u8; 81]) -> bool
     ensures { result ≡ both (every (digit_value digits.now given.now) 81 1) (every (solution_value solution.now) 81 1) }
 {

@@ -7,7 +7,8 @@ pub mod encoded;
 
 // Bytes of an encoded call, and of its answer.
 pub const CALL_BYTES: usize = 4;
-// An encoded call's first byte: which call it is. Numbers, since the C header names them; `decode` makes a `Call` of them.
+// An encoded call's first byte: which call it is. Numbers, since the C header names them; `decode` makes a `Call` of
+// them.
 pub const CALL_PLACE: u8 = 2;
 
 pub const CALL_ERASE: u8 = 3;
