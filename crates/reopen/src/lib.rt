@@ -34,7 +34,7 @@ use record::error::ReopenError;
 use record::items::{asked_at, move_at};
 use record::scan::read_record;
 use record::write::{count_givens, move_length};
-use record::{CHECK_ITEM, GIVEN_ITEM};
+use record::{CHECK_ITEM, GIVEN_ITEM, Scanned};
 use sudoku::{CELLS, cell_of, in_range, on_grid};
 use undo::take_back;
 
@@ -192,28 +192,27 @@ fn is_undone_solved(solved: u8, undone: usize) -> bool
 // 30, the undone moves taken back, then the checks, which stand at the end of the bytes.
 fn settle(
     bytes: &[u8],
-    undone: usize,
-    count: usize,
+    s: Scanned,
     board: Board,
     journal: &[u8],
     checks: &mut [u8],
 ) -> Result<Board, ReopenError>
-    requires { (count ≤ max_checks) × (check_item_bytes * count ≤ length bytes.now) × (checks.old ≡ no_checks) }
-    ensures { Reopens (settled_by undone (asks_at bytes.now (length bytes.now - check_item_bytes * count) count) board journal.now) result journal.now checks.new }
+    requires { (s.checks ≤ max_checks) × (check_item_bytes * s.checks ≤ length bytes.now) × (checks.old ≡ no_checks) }
+    ensures { Reopens (settled_by s.undone (asks_at bytes.now (length bytes.now - check_item_bytes * s.checks) s.checks) board journal.now) result journal.now checks.new }
 {
-    if is_undone_solved(board.solved, undone) {
+    if is_undone_solved(board.solved, s.undone) {
         return Err(ReopenError::UndoneWhenSolved);
     }
     let mut back = board;
-    take_back_all(undone, &mut back, &journal);
+    take_back_all(s.undone, &mut back, &journal);
     read_checks(
         bytes,
-        bytes.len() - CHECK_ITEM * count,
-        count,
+        bytes.len() - CHECK_ITEM * s.checks,
+        s.checks,
         &back,
         checks,
     )?;
-    back.checks = count;
+    back.checks = s.checks;
     Ok(back)
 }
 
@@ -237,7 +236,7 @@ fn reopened(
     };
     let board = Board::fresh(givens, rows);
     let last = replay(bytes, GIVEN_ITEM * s.givens, s.moves, board, journal)?;
-    settle(bytes, s.undone, s.checks, last, journal, checks)
+    settle(bytes, s, last, journal, checks)
 }
 
 // Reopens a record. A refusal by anything but 1 leaves both memories zero.

@@ -20,7 +20,7 @@ use Rattle.reopen.proofs.settle.Goals as goal
 pub returns-then-is_undone_solved : goal.returns-then-is_undone_solved
 returns-then-is_undone_solved c =
     let a = c.args in
-    reopens_refused _ _ _ _ _ refl (settled_30 a.undone (asks_at a.bytes.now (length a.bytes.now - check_item_bytes * a.count) a.count) a.board a.journal.now (sym c.is_undone_solved.ensures ∙ c.if-is_undone_solved.true))
+    reopens_refused _ _ _ _ _ refl (settled_30 a.s.undone (asks_at a.bytes.now (length a.bytes.now - check_item_bytes * a.s.checks) a.s.checks) a.board a.journal.now (sym c.is_undone_solved.ensures ∙ c.if-is_undone_solved.true))
 
 pub read_checks-requires : goal.read_checks-requires
 read_checks-requires c =
@@ -33,7 +33,7 @@ returns-in_err-read_checks c =
     let back = c.take_back_all in
     let p = err_from_is_err_and c.from_residual.result c.from_residual.ensures.1 in
     let e = c.in_err-read_checks.field-0.0 in
-    reopens_refused _ _ _ _ e (rw p.2 at p.1) (settled_refused a.undone (asks_at a.bytes.now (length a.bytes.now - check_item_bytes * a.count) a.count) a.board a.journal.now (sym c.is_undone_solved.ensures ∙ c.if-is_undone_solved.false) back.new.board back.ensures (reopen_refusal e) c.in_err-read_checks.ensures.refusal (reopen_numbered e))
+    reopens_refused _ _ _ _ e (rw p.2 at p.1) (settled_refused a.s.undone (asks_at a.bytes.now (length a.bytes.now - check_item_bytes * a.s.checks) a.s.checks) a.board a.journal.now (sym c.is_undone_solved.ensures ∙ c.if-is_undone_solved.false) back.new.board back.ensures (reopen_refusal e) c.in_err-read_checks.ensures.refusal (reopen_numbered e))
 
 pub returns : goal.returns
 unfolding board_of state_of counts_of
@@ -41,8 +41,8 @@ returns c =
     let a = c.args in
     let back = c.take_back_all in
     let checked = c.in_ok-read_checks.ensures in
-    let cs = asks_at a.bytes.now (length a.bytes.now - check_item_bytes * a.count) a.count in
+    let cs = asks_at a.bytes.now (length a.bytes.now - check_item_bytes * a.s.checks) a.s.checks in
     reopens_given _ _ _ _
-    (settled_gives a.undone cs a.board a.journal.now (sym c.is_undone_solved.ensures ∙ c.if-is_undone_solved.false) back.new.board back.ensures _ checked.refusal refl _ a.count _ refl
-    (sym (asks_length a.bytes.now (length a.bytes.now - check_item_bytes * a.count) a.count))
+    (settled_gives a.s.undone cs a.board a.journal.now (sym c.is_undone_solved.ensures ∙ c.if-is_undone_solved.false) back.new.board back.ensures _ checked.refusal refl _ a.s.checks _ refl
+    (sym (asks_length a.bytes.now (length a.bytes.now - check_item_bytes * a.s.checks) a.s.checks))
     (checked.stored ∙ ap (λ (l : List ℕ). over l 0 (stored_of back.new.board.solution cs)) c.requires.2))
