@@ -14,9 +14,10 @@ pub struct Numbers {
     pub digit: u8,
 }
 
-// What is played: the board, and the memory that is lent to its calls.
+// What is played: the board, and the memory that is lent to its calls; and whether it is shown in colours.
 #[derive(Clone, Copy)]
 pub struct Game {
     pub board: Board,
     pub memory: Memory,
+    pub coloured: bool,
 }

@@ -160,18 +160,18 @@ fn show_line(board: Board) {
 
 impl Game {
     // The board after a call: drawn, or with the refusal's words.
-    fn settle(&mut self, answer: Answer, coloured: bool)
+    fn settle(&mut self, answer: Answer)
         ensures { played self.new ≡ record (played self.old) { board = answer.board } }
     {
         self.board = answer.board;
         if is_accepted(answer.refusal) {
-            whole(self.board, coloured);
+            whole(self.board, self.coloured);
         }
     }
 
     // One of the four moves.
     #[tactic(auto, unfolding(crate::specs::Perform::move_call, calls::specs::Encoded::run_one, calls::specs::Session::call_of, calls::specs::Session::called))]
-    fn make(&mut self, command: Command<'_>, coloured: bool)
+    fn make(&mut self, command: Command<'_>)
         ensures { played self.new ≡ (run_one (played self.old) (move_call (request command.entry))).left }
     {
         let verb = command.verb;
@@ -180,12 +180,12 @@ impl Game {
             return;
         };
         let answer = play(self.board, &mut self.memory.journal, move_named(verb, n));
-        self.settle(answer, coloured);
+        self.settle(answer);
     }
 
     // Undo and redo.
     #[tactic(auto, unfolding(crate::specs::Perform::undo_call, crate::specs::Perform::step_named, sudoku::specs::Tests::pick, calls::specs::Encoded::run_one, calls::specs::Session::call_of, calls::specs::Session::called))]
-    fn step(&mut self, command: Command<'_>, coloured: bool)
+    fn step(&mut self, command: Command<'_>)
         ensures { played self.new ≡ (run_one (played self.old) (undo_call (request command.entry))).left }
     {
         let verb = command.verb;
@@ -195,16 +195,16 @@ impl Game {
         }
         if verb == Verb::Undo {
             let answer = undo(self.board, &self.memory.journal);
-            self.settle(answer, coloured);
+            self.settle(answer);
             return;
         }
         let answer = redo(self.board, &self.memory.journal);
-        self.settle(answer, coloured);
+        self.settle(answer);
     }
 
     // A check of the player's digit.
     #[tactic(auto, unfolding(crate::specs::Perform::check_call, calls::specs::Encoded::run_one, calls::specs::Session::call_of, calls::specs::Session::called))]
-    fn check(&mut self, command: Command<'_>, coloured: bool)
+    fn check(&mut self, command: Command<'_>)
         ensures { played self.new ≡ (run_one (played self.old) (check_call (request command.entry))).left }
     {
         let Some(n) = numbers(command, 2) else {
@@ -216,7 +216,7 @@ impl Game {
         if !is_accepted(answer.refusal) {
             return;
         }
-        whole(self.board, coloured);
+        whole(self.board, self.coloured);
         let digit = digit_at(&self.board.digits, cell_of(n.row, n.column));
         verdict(self.board.standing, n.row, n.column, digit, answer.right);
     }
@@ -242,14 +242,14 @@ impl Game {
     }
 
     // The reading of move k.
-    fn read_move(&self, command: Command<'_>, coloured: bool) {
+    fn read_move(&self, command: Command<'_>) {
         let Some(k) = number(command.first).filter(|_| command.words == 1) else {
             want(Verb::Move);
             return;
         };
         let r = reading(self.board, &self.memory.journal, k);
         if is_accepted(r.refusal) {
-            position(&r.digits, &self.board.given, &r.notes, coloured);
+            position(&r.digits, &self.board.given, &r.notes, self.coloured);
             made(k, slot_at(&self.memory.journal, k), r.undone);
         }
     }
@@ -281,17 +281,17 @@ impl Game {
     }
 
     // The board that was opened, drawn; where none was, the one that is played stays.
-    fn take_up(&mut self, loaded: Option<Board>, coloured: bool)
+    fn take_up(&mut self, loaded: Option<Board>)
         ensures { played self.new ≡ record (played self.old) { board = unwrap_or loaded self.old.board } }
     {
         if let Some(board) = loaded {
             self.board = board;
-            whole(board, coloured);
+            whole(board, self.coloured);
         }
     }
 
     // A file, and another for the solution where a second word names one.
-    fn open<R: Files>(&mut self, rt: &R, command: Command<'_>, coloured: bool)
+    fn open<R: Files>(&mut self, rt: &R, command: Command<'_>)
         ensures { Opens (request command.entry) (played self.old) (played self.new) }
     {
         if command.words < 1 || command.words > 2 {
@@ -300,12 +300,12 @@ impl Game {
         }
         let right = &self.board.solution;
         let loaded = self.memory.load(rt, command.first, command.second, right);
-        self.take_up(loaded, coloured);
+        self.take_up(loaded);
     }
 
     // A mailed line and the line of its solution, as two words.
     #[tactic(auto, unfolding(crate::specs::Perform::puzzle_leaves, crate::specs::Perform::taken_up, sudoku::specs::Tests::pick))]
-    fn open_line(&mut self, command: Command<'_>, coloured: bool)
+    fn open_line(&mut self, command: Command<'_>)
         ensures { played self.new ≡ puzzle_leaves (request command.entry) (played self.old) }
     {
         if command.words != 2 {
@@ -313,44 +313,44 @@ impl Game {
             return;
         }
         let loaded = self.memory.load_line(command.first, command.second);
-        self.take_up(loaded, coloured);
+        self.take_up(loaded);
     }
 
     // The commands that have no words after them, show something and change nothing.
-    fn show_alone(&self, verb: Verb, coloured: bool) {
+    fn show_alone(&self, verb: Verb) {
         match verb {
             Verb::Latest => self.show_latest(),
             Verb::Next => self.show_next(),
             Verb::Left => keys(&self.board.digits),
-            Verb::Board => whole(self.board, coloured),
+            Verb::Board => whole(self.board, self.coloured),
             Verb::Line => show_line(self.board),
             _ => help(),
         }
     }
 
     // The commands that show something and change nothing.
-    fn show(&self, command: Command<'_>, coloured: bool) {
+    fn show(&self, command: Command<'_>) {
         match command.verb {
-            Verb::Move => self.read_move(command, coloured),
+            Verb::Move => self.read_move(command),
             Verb::Unknown => show("no such command: help lists them\n"),
             verb if command.words != 0 => want(verb),
-            verb => self.show_alone(verb, coloured),
+            verb => self.show_alone(verb),
         }
     }
 }
 
 // A command performed.
-pub fn perform<R: Files>(rt: &R, game: &mut Game, command: Command<'_>, coloured: bool)
+pub fn perform<R: Files>(rt: &R, game: &mut Game, command: Command<'_>)
     ensures { Performs (request command.entry) (played game.old) (played game.new) }
 {
     match command.verb {
-        Verb::Place | Verb::Mark | Verb::Strike | Verb::Erase => game.make(command, coloured),
-        Verb::Undo | Verb::Redo => game.step(command, coloured),
-        Verb::Check => game.check(command, coloured),
-        Verb::Open => game.open(rt, command, coloured),
-        Verb::Puzzle => game.open_line(command, coloured),
+        Verb::Place | Verb::Mark | Verb::Strike | Verb::Erase => game.make(command),
+        Verb::Undo | Verb::Redo => game.step(command),
+        Verb::Check => game.check(command),
+        Verb::Open => game.open(rt, command),
+        Verb::Puzzle => game.open_line(command),
         Verb::Save => game.save(rt, command),
         Verb::NoWord => {}
-        _ => game.show(command, coloured),
+        _ => game.show(command),
     }
 }

@@ -40,7 +40,6 @@ fn is_quit(command: Command<'_>) -> bool {
 struct Console {
     game: Game,
     input: Input,
-    coloured: bool,
     echo: bool,
 }
 
@@ -54,7 +53,7 @@ impl Console {
         if is_quit(command) {
             return false;
         }
-        perform(rt, &mut self.game, command, self.coloured);
+        perform(rt, &mut self.game, command);
         true
     }
 
@@ -93,10 +92,15 @@ fn name<'a>(rt: &HostRuntime, at: Option<usize>, memory: &'a mut [u8; PATH_MAX])
 
 // The game to start with: the one that the command line names, or the one that is built in.
 fn first_game(rt: &HostRuntime, args: Arguments) -> Option<Game> {
+    let coloured = args.colour.is_on(rt);
     let mut memory = Memory::new();
     let Some(file) = args.file else {
         let board = built_in(&mut memory);
-        return Some(Game { board, memory });
+        return Some(Game {
+            board,
+            memory,
+            coloured,
+        });
     };
     let right = built_in_solution();
     let mut path = [0u8; PATH_MAX];
@@ -104,7 +108,11 @@ fn first_game(rt: &HostRuntime, args: Arguments) -> Option<Game> {
     let path = name(rt, Some(file), &mut path);
     let solution = name(rt, args.solution, &mut solution);
     let board = memory.load(rt, path, solution, &right)?;
-    Some(Game { board, memory })
+    Some(Game {
+        board,
+        memory,
+        coloured,
+    })
 }
 
 // The game, where the board to start with opens.
@@ -112,13 +120,11 @@ fn begin(rt: &HostRuntime, args: Arguments) {
     let Some(game) = first_game(rt, args) else {
         return;
     };
-    let coloured = args.colour.is_on(rt);
     show("pawdoku: type a command, as place 1 3 4, or help\n");
-    whole(game.board, coloured);
+    whole(game.board, game.coloured);
     let mut console = Console {
         game,
         input: Input::new(),
-        coloured,
         echo: !rt.stdin().is_terminal(),
     };
     console.play(rt);
