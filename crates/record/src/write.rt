@@ -8,20 +8,19 @@ ghost use Rattle.journal.specs.Limits.{max_moves, max_checks};
 ghost use Rattle.journal.specs.Bytes.{over};
 ghost use Rattle.play.specs.Unsound.{unsound_refusal};
 ghost use Rattle.record.specs.declared.Item.TheVariants.{Played};
-ghost use Rattle.record.specs.Items.{encode, check_item, record_of};
+ghost use Rattle.record.specs.Items.{encode, record_of};
 ghost use Rattle.record.specs.Write.{parts_of, unsound_check, unwritable, write_refusal, write_of};
 ghost use Rattle.record.specs.Errors.{write_error_refusal};
 ghost use Rattle.record.specs.Code.Laying.{given_bytes, givens_bytes, moves_bytes, checks_bytes};
 
 use crate::error::WriteError;
-use crate::{CHECK_ITEM, ERASE_ITEM, GIVEN_ITEM, MOVE_ITEM, UNDONE_ITEM, Written};
+use crate::{CHECK_ITEM, ERASE_ITEM, GIVEN_ITEM, Item, MOVE_ITEM, UNDONE_ITEM, Written};
 use board::Board;
 use board::value::lent;
 use journal::checks::{check_at, is_sound_check};
 use journal::slots::{is_given, move_of, slot_at};
 use journal::{
-    Asked, CHECK, CHECK_MEMORY, ERASE, GIVEN, JOURNAL_BYTES, Move, PLACE, STRIKE_MARK, UNDONE,
-    WRITE_MARK,
+    CHECK, CHECK_MEMORY, ERASE, GIVEN, JOURNAL_BYTES, Move, PLACE, STRIKE_MARK, UNDONE, WRITE_MARK,
 };
 use play::sound::{Unsound, sound_slots};
 use puzzle::answer::accepted;
@@ -56,8 +55,48 @@ fn lay(output: &mut [u8], at: usize, bytes: &[u8]) -> usize
     end
 }
 
+// An item, its kind byte in front.
+#[tactic(auto, unfolding(crate::specs::Items::encode, journal::specs::Bytes::low, journal::specs::Bytes::second))]
+fn lay_item(item: Item, output: &mut [u8], at: usize) -> usize
+    requires { at + length (encode item) ≤ length output.old }
+    ensures { (result ≡ at + length (encode item)) × (output.new ≡ over output.old at (encode item)) }
+{
+    match item {
+        Item::Given { row, column, digit } => lay(output, at, &[GIVEN, row, column, digit]),
+        Item::Played(Move::Place { row, column, digit }) => lay(
+            output,
+            at,
+            &[PLACE, row, column, digit],
+        ),
+        Item::Played(Move::Erase { row, column }) => lay(output, at, &[ERASE, row, column]),
+        Item::Played(Move::WriteMark { row, column, digit }) => lay(
+            output,
+            at,
+            &[WRITE_MARK, row, column, digit],
+        ),
+        Item::Played(Move::StrikeMark { row, column, digit }) => lay(
+            output,
+            at,
+            &[STRIKE_MARK, row, column, digit],
+        ),
+        Item::Undone(n) => {
+            let [low, second, ..] = n.to_le_bytes();
+            lay(output, at, &[UNDONE, low, second])
+        }
+        Item::Check {
+            standing,
+            row,
+            column,
+            digit,
+        } => {
+            let [low, second, ..] = standing.to_le_bytes();
+            lay(output, at, &[CHECK, low, second, row, column, digit])
+        }
+    }
+}
+
 // The item of a cell's given; nothing where it is none.
-#[tactic(auto, unfolding(crate::specs::Code::Laying::given_bytes, sudoku::specs::Tests::pick, sudoku::specs::Grid::row_of))]
+#[tactic(auto, unfolding(crate::specs::Code::Laying::given_bytes, crate::specs::Items::encode, sudoku::specs::Tests::pick, sudoku::specs::Grid::row_of))]
 fn lay_given(board: &Board, cell: usize, output: &mut [u8], at: usize) -> usize
     requires { (cell ≤ 81) × (at + length (given_bytes board.now.given board.now.digits cell) ≤ length output.old) }
     ensures { (result ≡ at + length (given_bytes board.now.given board.now.digits cell)) × (output.new ≡ over output.old at (given_bytes board.now.given board.now.digits cell)) }
@@ -65,12 +104,14 @@ fn lay_given(board: &Board, cell: usize, output: &mut [u8], at: usize) -> usize
     if !is_given(&board.given, cell) {
         return at;
     }
-    let row = row_of(cell) as u8;
-    let column = column_of(cell) as u8;
-    lay(
+    lay_item(
+        Item::Given {
+            row: row_of(cell) as u8,
+            column: column_of(cell) as u8,
+            digit: digit_at(&board.digits, cell),
+        },
         output,
         at,
-        &[GIVEN, row, column, digit_at(&board.digits, cell)],
     )
 }
 
@@ -84,42 +125,6 @@ fn lay_givens(board: &Board, output: &mut [u8]) -> usize
         at = lay_given(board, cell, output, at);
     }
     at
-}
-
-// The item of a move.
-#[tactic(auto, unfolding(crate::specs::Items::encode))]
-fn lay_move(m: Move, output: &mut [u8], at: usize) -> usize
-    requires { at + length (encode (Played m)) ≤ length output.old }
-    ensures { (result ≡ at + length (encode (Played m))) × (output.new ≡ over output.old at (encode (Played m))) }
-{
-    match m {
-        Move::Place { row, column, digit } => lay(output, at, &[PLACE, row, column, digit]),
-        Move::Erase { row, column } => lay(output, at, &[ERASE, row, column]),
-        Move::WriteMark { row, column, digit } => lay(
-            output,
-            at,
-            &[WRITE_MARK, row, column, digit],
-        ),
-        Move::StrikeMark { row, column, digit } => lay(
-            output,
-            at,
-            &[STRIKE_MARK, row, column, digit],
-        ),
-    }
-}
-
-// The item of a check.
-#[tactic(auto, unfolding(crate::specs::Items::encode, crate::specs::Items::check_item, journal::specs::Bytes::low, journal::specs::Bytes::second))]
-fn lay_check(asked: Asked, output: &mut [u8], at: usize) -> usize
-    requires { at + 6 ≤ length output.old }
-    ensures { (result ≡ at + 6) × (output.new ≡ over output.old at (encode (check_item asked))) }
-{
-    let [low, second, ..] = asked.standing.to_le_bytes();
-    lay(
-        output,
-        at,
-        &[CHECK, low, second, asked.row, asked.column, asked.digit],
-    )
 }
 
 // 14 of the first of the checks 1 to count that is unsound.
@@ -191,7 +196,7 @@ impl<'a> Kept<'a> {
     {
         let mut at = start;
         for n in 1..=self.board.made {
-            at = lay_move(move_of(slot_at(self.journal, n)), output, at);
+            at = lay_item(Item::Played(move_of(slot_at(self.journal, n))), output, at);
         }
         at
     }
@@ -203,7 +208,7 @@ impl<'a> Kept<'a> {
     {
         let mut at = start;
         for n in 1..=self.board.checks {
-            at = lay_check(check_at(self.checks, n), output, at);
+            at = lay_item(check_at(self.checks, n).into(), output, at);
         }
         at
     }
@@ -216,8 +221,7 @@ impl<'a> Kept<'a> {
         let moves = lay_givens(self.board, output);
         let count = self.lay_moves(output, moves);
         let undone = self.board.made - self.board.standing;
-        let [low, second, ..] = undone.to_le_bytes();
-        let asked = lay(output, count, &[UNDONE, low, second]);
+        let asked = lay_item(Item::Undone(undone), output, count);
         self.lay_checks(output, asked);
     }
 }

@@ -1,6 +1,7 @@
 -- `record::write::Kept::lay` meets its contract: group behind group.
 -- Assumes nothing.
 use Rattle.journal.specs.Bytes.{low, second}
+use Rattle.record.specs.Items.{encode}
 use Rattle.record.proofs.Laying.{givens_room_lem, moves_room, count_room, checks_room, record_laid}
 use Rattle.record.proofs.write.Kept.lay.Goals as goal
 
@@ -15,27 +16,28 @@ lay_moves-count-requires c =
     let givens = c.lay_givens-moves in
     moves_room s.board.now s.journal.now s.checks.now c.args.output.now c.requires _ givens.result givens.ensures.0 givens.ensures.1
 
-pub lay-asked-requires : goal.lay-asked-requires
-lay-asked-requires c =
+pub lay_item-asked-requires : goal.lay_item-asked-requires
+unfolding encode
+lay_item-asked-requires c =
     let s = c.args.self.now in
     let givens = c.lay_givens-moves in
     let moves = c.lay_moves-count in
     count_room s.board.now s.journal.now s.checks.now c.args.output.now c.requires _ givens.result givens.ensures.0 givens.ensures.1 _ moves.result moves.ensures.0 moves.ensures.1
 
 pub lay_checks-requires : goal.lay_checks-requires
-unfolding low second
+unfolding encode low second
 lay_checks-requires c =
     let s = c.args.self.now in
     let givens = c.lay_givens-moves in
     let moves = c.lay_moves-count in
-    let undone = rw c.to_le_bytes.ensures at c.lay-asked.ensures in
-    checks_room s.board.now s.journal.now s.checks.now c.args.output.now c.requires _ givens.result givens.ensures.0 givens.ensures.1 _ moves.result moves.ensures.0 moves.ensures.1 _ c.lay-asked.result undone.0 undone.1
+    let undone = c.lay_item-asked.ensures in
+    checks_room s.board.now s.journal.now s.checks.now c.args.output.now c.requires _ givens.result givens.ensures.0 givens.ensures.1 _ moves.result moves.ensures.0 moves.ensures.1 _ c.lay_item-asked.result undone.0 undone.1
 
 pub returns : goal.returns
-unfolding low second
+unfolding encode low second
 returns c =
     let s = c.args.self.now in
     let givens = c.lay_givens-moves in
     let moves = c.lay_moves-count in
-    let undone = rw c.to_le_bytes.ensures at c.lay-asked.ensures in
-    record_laid s.board.now s.journal.now s.checks.now c.args.output.now c.requires _ givens.result givens.ensures.0 givens.ensures.1 _ moves.result moves.ensures.0 moves.ensures.1 _ c.lay-asked.result undone.0 undone.1 _ c.lay_checks.ensures.1
+    let undone = c.lay_item-asked.ensures in
+    record_laid s.board.now s.journal.now s.checks.now c.args.output.now c.requires _ givens.result givens.ensures.0 givens.ensures.1 _ moves.result moves.ensures.0 moves.ensures.1 _ c.lay_item-asked.result undone.0 undone.1 _ c.lay_checks.ensures.1

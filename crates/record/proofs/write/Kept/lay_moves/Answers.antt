@@ -16,8 +16,8 @@ loop-n-init c =
     let journal = a.self.now.journal.now in
     laying_start a.output.now a.start (items_left Played (move_in journal) (n + 1) 1) (omega (arith, c.requires, ap length (moves_left journal n)))
 
-pub lay_move-at-requires : goal.lay_move-at-requires
-lay_move-at-requires c =
+pub lay_item-at-requires : goal.lay_item-at-requires
+lay_item-at-requires c =
     let n = c.args.self.now.board.now.made in
     let journal = c.args.self.now.journal.now in
     let turn = c.loop-n in
@@ -28,7 +28,7 @@ loop-n-preserved c =
     let n = c.args.self.now.board.now.made in
     let journal = c.args.self.now.journal.now in
     let turn = c.loop-n in
-    let laid = c.lay_move-at.ensures in
+    let laid = c.lay_item-at.ensures in
     item_laid Played (move_in journal) (n + 1) _ _ _ _ _ _ turn.invariant c.move_of.result _ _ (omega arith) (c.move_of.ensures ∙ ap move_of c.slot_at.ensures) laid.0 laid.1
 
 pub shape_of-output : goal.shape_of-output
@@ -48,6 +48,6 @@ returns-2 c =
     let n = c.args.self.now.board.now.made in
     let journal = c.args.self.now.journal.now in
     let turn = c.loop-n in
-    let laid = c.lay_move-at.ensures in
+    let laid = c.lay_item-at.ensures in
     let last = item_laid Played (move_in journal) (n + 1) _ _ _ _ _ _ turn.invariant c.move_of.result _ _ (omega arith) (c.move_of.ensures ∙ ap move_of c.slot_at.ensures) laid.0 laid.1 in
     items_laid Played (move_in journal) (n + 1) _ _ _ _ _ _ last (omega arith) _ (moves_left journal n)
