@@ -2,21 +2,20 @@
 // being played stays until another one is open.
 ghost use Rattle.std.specs.Prelude.{◌≡◌};
 ghost use Rattle.board.specs.Open.{open_of, Gives};
+ghost use Rattle.lines.specs.Lines.{digits_bytes};
 ghost use Rattle.files.specs.Load.{is_record, open_bytes, is_openable, left, takes_place, load_bytes, FileLoaded, FilesLoaded, open_line, load_line};
 
 use crate::Memory;
 use crate::disk::{FILE_BYTES, read, read_cells, whole_cells};
 use board::open::open;
 use board::{Answer, Board};
-use journal::{CHECK_MEMORY, JOURNAL_BYTES};
-use lines::{GIVENS_ROOM, givens_of, line_cells, read_line};
+use lines::{GIVENS_ROOM, givens_in, line_digits};
 use print::show;
 use print::words::{explain, explain_line};
 use puzzle::byte_at;
 use reopen::reopen;
 use std::rt::Files;
 use texts::grids::cells;
-use texts::part;
 
 // A record's first byte is the kind of its first item, 1 to 7; a text never starts so.
 #[tactic(auto, unfolding(crate::specs::Load::is_record, sudoku::specs::Tests::both))]
@@ -41,9 +40,16 @@ impl Memory {
         if is_record(bytes) {
             return reopen(bytes, right, &mut self.journal, &mut self.checks);
         }
-        let givens = givens_of(&cells(bytes));
-        let front = part(&givens.bytes, 0, givens.length);
-        open(front, right, &mut self.journal, &mut self.checks)
+        self.open_puzzle(&cells(bytes), right)
+    }
+
+    // Opens a puzzle whose digits are the givens.
+    fn open_puzzle(&mut self, digits: &[u8; 81], right: &[u8; 81]) -> Answer
+        ensures { Gives (open_of (digits_bytes digits.now) right.now self.old.journal self.old.checks) result self.new.journal self.new.checks }
+    {
+        let mut room = [0u8; GIVENS_ROOM];
+        let givens = givens_in(digits, &mut room);
+        open(givens, right, &mut self.journal, &mut self.checks)
     }
 
     // What was opened in memory apart takes the place of this memory, where all went well.
@@ -100,16 +106,17 @@ impl Memory {
     fn open_line(&mut self, line: &[u8], right: &[u8; 81]) -> Option<Board>
         ensures { left result self.new.journal self.new.checks ≡ open_line line.now right.now self.old.journal self.old.checks }
     {
-        let mut givens = [0u8; GIVENS_ROOM];
-        let read = read_line(line, &mut givens);
-        if read.refusal.number != 0 {
-            explain_line(read.refusal, line);
-            return None;
+        match line_digits(line) {
+            Ok(digits) => {
+                let mut own = Memory::new();
+                let answer = own.open_puzzle(&digits, right);
+                self.take_up(answer, &own)
+            }
+            Err(error) => {
+                explain_line(error.into(), line);
+                None
+            }
         }
-        let mut own = Memory::new();
-        let front = part(&givens, 0, read.length);
-        let answer = open(front, right, &mut own.journal, &mut own.checks);
-        self.take_up(answer, &own)
     }
 
     // A mailed line with the line of its solution, both taken strictly. A blank in the solution is a cell without a
@@ -117,12 +124,13 @@ impl Memory {
     pub fn load_line(&mut self, line: &[u8], solution: &[u8]) -> Option<Board>
         ensures { left result self.new.journal self.new.checks ≡ load_line line.now solution.now self.old.journal self.old.checks }
     {
-        let right = line_cells(solution);
-        if right.refusal.number != 0 {
-            show("the solution's line is ");
-            explain_line(right.refusal, solution);
-            return None;
+        match line_digits(solution) {
+            Ok(right) => self.open_line(line, &right),
+            Err(error) => {
+                show("the solution's line is ");
+                explain_line(error.into(), solution);
+                None
+            }
         }
-        self.open_line(line, &right.cells)
     }
 }

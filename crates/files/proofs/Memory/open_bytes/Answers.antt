@@ -3,7 +3,6 @@
 use mathlib.Core.Path.{sym, ◌∙◌}
 use Rattle.sudoku.proofs.Walks.{pick_true, pick_false}
 use Rattle.files.specs.Load.{open_bytes}
-use Rattle.files.proofs.Loading.{givens_front}
 use Rattle.files.proofs.Memory.open_bytes.Goals as goal
 
 pub returns-then-is_record : goal.returns-then-is_record
@@ -12,6 +11,4 @@ returns-then-is_record c = rw (pick_true _ _ _ (sym c.is_record.ensures ∙ c.if
 
 pub returns : goal.returns
 unfolding open_bytes
-returns c =
-    let front = c.part-front.ensures ∙ givens_front _ _ c.givens_of-givens.ensures in
-    rw (pick_false _ _ _ (sym c.is_record.ensures ∙ c.if-is_record.false), ← c.cells.ensures) (rw front at c.«open».ensures)
+returns c = rw (pick_false _ _ _ (sym c.is_record.ensures ∙ c.if-is_record.false), ← c.cells.ensures) c.open_puzzle.ensures
