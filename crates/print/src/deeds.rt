@@ -1,6 +1,7 @@
 // Moves and checks, each on a line of its own.
 use crate::{Count, show};
-use journal::{ERASE, PLACE, Slot, WRITE_MARK};
+use journal::slots::move_of;
+use journal::{Move, Slot};
 use std::fmt;
 use std::fmt::Display;
 use sudoku::{cell_of, column_of, peers, row_of};
@@ -58,21 +59,16 @@ impl Display for Displaced {
 
 // What a move did: its kind in a word, and the digit where it has one.
 #[derive(Clone, Copy)]
-struct Deed(Slot);
+struct Deed(Move);
 
 impl Display for Deed {
     fn fmt<W: fmt::Write>(&self, f: &mut fmt::Formatter<W>) -> fmt::Result {
-        f.write_str(match self.0.kind {
-            PLACE => "place ",
-            ERASE => "erase",
-            WRITE_MARK => "mark ",
-            _ => "strike ",
-        })?;
-        let digit = self.0.digit;
-        if digit != 0 {
-            write!(f, "{digit}")?;
+        match self.0 {
+            Move::Place { digit, .. } => write!(f, "place {digit}"),
+            Move::Erase { .. } => f.write_str("erase"),
+            Move::WriteMark { digit, .. } => write!(f, "mark {digit}"),
+            Move::StrikeMark { digit, .. } => write!(f, "strike {digit}"),
         }
-        Ok(())
     }
 }
 
@@ -82,7 +78,7 @@ pub fn made(n: usize, slot: Slot, undone: bool) {
         row: slot.row,
         column: slot.column,
     };
-    let deed = Deed(slot);
+    let deed = Deed(move_of(slot));
     let displaced = Displaced(slot);
     let undone = if undone { " (undone)" } else { "" };
     show(format_args!("move {n}: {deed}{at}{displaced}{undone}\n"));

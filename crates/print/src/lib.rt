@@ -2,6 +2,9 @@
 // this is thin: the drawing is made in crate screen, every answer in the library.
 #![tactic(auto)]
 
+ghost use Rattle.std.specs.Prelude.{◌≡◌, ◌<◌, ◌++◌, ◌==◌, if◌then◌else◌, Some, decimal};
+ghost use Rattle.print.specs.Shown.{is_printable, shown_byte, shown_text};
+
 use std::fmt;
 use std::fmt::Display;
 
@@ -34,8 +37,20 @@ pub fn say(text: &[u8]) {
     io::write_all(STDOUT, text);
 }
 
-fn is_printable(byte: u8) -> bool {
+#[tactic(auto, unfolding(crate::specs::Shown::is_printable, sudoku::specs::Tests::both))]
+fn is_printable(byte: u8) -> bool
+    ensures { result ≡ is_printable byte }
+{
     matches!(byte, b' '..=b'~')
+}
+
+// A byte, or ? where it is not printable.
+#[tactic(auto, unfolding(crate::specs::Shown::shown_byte, crate::specs::Shown::is_printable, sudoku::specs::Tests::pick, sudoku::specs::Tests::both))]
+fn shown_byte(byte: u8) -> u8
+    ensures shown { result ≡ shown_byte byte }
+    ensures ascii { result < 128 }
+{
+    if is_printable(byte) { byte } else { b'?' }
 }
 
 // A text from outside: its printable characters, and ? for every other byte.
@@ -43,10 +58,11 @@ fn is_printable(byte: u8) -> bool {
 pub struct Printable<'a>(pub &'a [u8]);
 
 impl<'a> Display for Printable<'a> {
+    ghost output = { λ p. Some (shown_text p.0.now) };
+
     fn fmt<W: fmt::Write>(&self, f: &mut fmt::Formatter<W>) -> fmt::Result {
         for byte in self.0 {
-            let shown = if is_printable(*byte) { *byte } else { b'?' };
-            f.write_char(char::from(shown))?;
+            f.write_char(char::from(shown_byte(*byte)))?;
         }
         Ok(())
     }
@@ -61,6 +77,8 @@ pub struct Count {
 }
 
 impl Display for Count {
+    ghost output = { λ c. Some (decimal c.n ++ (if c.n == 1 then c.one.now else c.more.now)) };
+
     fn fmt<W: fmt::Write>(&self, f: &mut fmt::Formatter<W>) -> fmt::Result {
         let Count { n, one, more } = *self;
         let noun = if n == 1 { one } else { more };
