@@ -14,7 +14,7 @@ use pawdoku::line::{pawdoku_read_line, pawdoku_write_line};
 use pawdoku::list::pawdoku_play;
 use pawdoku::saved::{pawdoku_open, pawdoku_reopen, pawdoku_write};
 use pawdoku::slots::pawdoku_reading;
-use puzzle::{Refusal, digit_at};
+use puzzle::digit_at;
 use record::RECORD_BYTES;
 use sudoku::{CELLS, SIDE};
 
@@ -32,12 +32,6 @@ struct Game {
 // The first bytes of some; none where there are not as many.
 fn front(bytes: &[u8], length: usize) -> &[u8] {
     bytes.get(..length).unwrap_or(&[])
-}
-
-fn expect_refusal(tally: &mut Tally, found: Refusal, stored: Refusal) {
-    tally.expect(found.number == stored.number);
-    tally.expect(found.place == stored.place);
-    tally.expect(found.inner == stored.inner);
 }
 
 // The number of calls, the calls, and their answers.
@@ -120,25 +114,13 @@ fn line(givens: &[u8], board: Board, tally: &mut Tally) {
     tally.expect_all(front(&read, back.length), givens);
 }
 
-// Whether a reopened board is the one that was played: its arrays, status and counts.
-fn expect_board(tally: &mut Tally, found: &Board, played: &Board) {
-    tally.expect_all(&found.digits, &played.digits);
-    tally.expect_all(&found.given, &played.given);
-    tally.expect_all(&found.notes, &played.notes);
-    tally.expect_all(&found.solution, &played.solution);
-    tally.expect(found.solved == played.solved);
-    tally.expect(found.made == played.made);
-    tally.expect(found.standing == played.standing);
-    tally.expect(found.checks == played.checks);
-}
-
 // The record as it stands in the block, reopened: the same board, the same slots and the same checks.
 fn reopened(record: &[u8], game: &Game, tally: &mut Tally) {
     let mut journal = [0u8; JOURNAL_BYTES];
     let mut checks = [0u8; CHECK_MEMORY];
     let answer = pawdoku_reopen(record, &game.board.solution, &mut journal, &mut checks);
     tally.expect(answer.refusal.number == 0);
-    expect_board(tally, &answer.board, &game.board);
+    tally.expect(answer.board == game.board);
     let moves = SLOT_BYTES * game.board.made.min(MAX_MOVES);
     tally.expect_all(front(&journal, moves), front(&game.journal, moves));
     let asked = CHECK_BYTES * game.board.checks.min(MAX_CHECKS);
@@ -190,7 +172,7 @@ pub fn session(block: &mut Block, tally: &mut Tally) {
     let solution = block.bytes(CELLS);
     let givens = givens(block);
     let opened = pawdoku_open(givens, solution, &mut journal, &mut checks);
-    expect_refusal(tally, opened.refusal, block.refusal());
+    tally.expect(opened.refusal == block.refusal());
     let mut game = Game {
         board: opened.board,
         journal,
@@ -218,5 +200,5 @@ pub fn reopening(block: &mut Block, tally: &mut Tally) {
     let length = block.number();
     let record = block.bytes(length);
     let answer = pawdoku_reopen(record, solution, &mut journal, &mut checks);
-    expect_refusal(tally, answer.refusal, stored);
+    tally.expect(answer.refusal == stored);
 }
