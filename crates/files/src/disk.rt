@@ -106,7 +106,7 @@ pub fn read<'a, R: Files>(rt: &R, path: &[u8], buffer: &'a mut [u8; FILE_BYTES])
 }
 
 // Says what is wrong with a text that is not 81 cells.
-pub fn complain(path: &[u8], error: CellsError) {
+fn complain(path: &[u8], error: CellsError) {
     let path = Printable(path);
     match error {
         CellsError::Wrong { character } => show(format_args!(
