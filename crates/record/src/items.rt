@@ -129,10 +129,7 @@ fn item_at(bytes: &[u8], at: usize, group: Group) -> Item
 pub fn read_item(bytes: &[u8], at: usize) -> Option<Read>
     ensures { result ≡ read_of at (taken (drop at bytes.now)) }
 {
-    if at >= bytes.len() {
-        return None;
-    }
-    let form = shape(bytes[at])?;
+    let form = shape(*bytes.get(at)?)?;
     if bytes.len() - at <= form.body {
         return None;
     }
