@@ -3,13 +3,13 @@
 -- Assumes nothing.
 use Prim.Native.Nat.{ℕ, ◌+◌, ◌-◌, ◌≤◌, ◌<◌}
 use mathlib.Core.Path.{◌≡◌, refl, sym, ap, ◌∙◌}
-use mathlib.Core.Bool.{Bool, true, false, not}
+use mathlib.Core.Bool.{true, false, not}
 use mathlib.Core.List.{List, [], ◌∷◌, ◌++◌}
 use native.Mathlib.Omega.{arith}
-use borrow.Author.Tests.{eqb-true, eqb-false, eq-eqb, ne_eqb, lt-ltb, le-ltb, ltb-false}
+use borrow.Author.Tests.{eqb-true, eqb-false, lt-ltb, le-ltb, ltb-false}
 use lib.Dec.{ltb, eqb}
-use lib.ListN.{length, get_or, replicate}
-use Rattle.sudoku.specs.Tests.{pick, listed}
+use lib.ListN.{length, get_or}
+use Rattle.sudoku.specs.Tests.{listed}
 use Rattle.sudoku.specs.Grid.{in_range, at}
 use Rattle.sudoku.proofs.Walks.{by_test, not_is_true, not_is_false, either_cases, both_left}
 use Rattle.sudoku.proofs.Listed.{listed_at, listed_shift}
@@ -26,7 +26,7 @@ use Rattle.puzzle.proofs.GivensBy.{by_same, by_room, bytes_left, bytes_turn, byt
 use Rattle.journal.specs.Bytes.{over}
 use Rattle.record.specs.Write.{wrote}
 use Rattle.record.proofs.Writing.{wrote_nothing, wrote_bytes}
-use Rattle.lines.specs.Lines.{line_bytes, givens_room, is_line, value_at, other_sort, line_refusal, values_of, line_cells, line_givens, digits_bytes, read_refusal, read_line_of}
+use Rattle.lines.specs.Lines.{line_bytes, givens_room, is_line, value_at, other_sort, line_refusal, values_of, line_givens, digits_bytes, read_refusal, read_line_of}
 use Rattle.lines.specs.Code.Triples.{given_bytes}
 
 -- ---- 36 and 37
@@ -68,20 +68,6 @@ module _ (line : List ℕ) where
   pub a_line : is_line line ≡ true → line_refusal line ≡ first_refused (other_sort line) 81 1
   unfolding line_refusal
   a_line t = or_else_past _ _ (if_not _ (refusal 36 0 0) (not_is_false _ t))
-
-  -- the cells beside a refusal, and of a line
-  module _ (r : Refusal) (e : r ≡ line_refusal line) where
-    cells_by : (t : Bool) → is_accepted r ≡ t → record { refusal = r; cells = pick t (values_of line) (replicate 81 0) } ≡ line_cells line
-    unfolding line_cells
-    cells_by t q = λ j. record { refusal = e j; cells = pick ((sym q ∙ ap is_accepted e) j) (values_of line) (replicate 81 0) }
-
-    pub cells_refused : (r.number ≡ 0 → ⊥) → record { refusal = r; cells = replicate 81 0 } ≡ line_cells line
-    unfolding is_accepted pick
-    cells_refused n = cells_by false (ne_eqb r.number 0 n)
-
-    pub cells_read : r.number ≡ 0 → record { refusal = r; cells = values_of line } ≡ line_cells line
-    unfolding is_accepted pick
-    cells_read z = cells_by true (eq-eqb r.number 0 z)
 
 -- ---- the digits of the cells, laid as givens
 

@@ -11,7 +11,7 @@ ghost use Rattle.puzzle.specs.Givens.{triple_bytes};
 ghost use Rattle.journal.specs.Bytes.{over};
 ghost use Rattle.board.specs.Board.{digit_value};
 ghost use Rattle.lines.specs.Errors.{line_error_refusal};
-ghost use Rattle.lines.specs.Lines.{line_bytes, givens_room, is_line, line_refusal, values_of, line_cells, line_givens, digits_bytes, digits_givens};
+ghost use Rattle.lines.specs.Lines.{line_bytes, givens_room, is_line, line_refusal, values_of, line_givens, digits_bytes};
 ghost use Rattle.lines.specs.Lines.{read_refusal, read_line_of, character_at, line_of, write_line_refusal, write_line_of};
 ghost use Rattle.lines.specs.Code.Triples.{given_bytes};
 
@@ -21,8 +21,8 @@ use board::value::is_board;
 use error::LineError;
 use journal::slots::is_given;
 use puzzle::answer::accepted;
+use puzzle::digit_at;
 use puzzle::text::value_of;
-use puzzle::{Refusal, digit_at};
 use record::Written;
 use record::write::nothing_written;
 use sudoku::{CELLS, column_of, row_of};
@@ -175,45 +175,4 @@ pub fn write_line(board: Board, output: &mut [u8]) -> Written
         },
         Err(e) => nothing_written(e.into()),
     }
-}
-
-// ---- until their callers have moved
-
-// The cells of a line: a digit, or 0 for a blank. Zeros beside a refusal.
-#[derive(Clone, Copy)]
-pub struct LineCells {
-    pub refusal: Refusal,
-    pub cells: [u8; 81],
-}
-
-// Givens as opening takes them: three bytes each, so many bytes in all.
-#[derive(Clone, Copy)]
-pub struct Givens {
-    pub bytes: [u8; GIVENS_ROOM],
-    pub length: usize,
-}
-
-// The cells of a line, which a solution may be sent as too. Refused by 36 37.
-pub fn line_cells(line: &[u8]) -> LineCells
-    ensures { result ≡ line_cells line.now }
-{
-    match line_digits(line) {
-        Ok(cells) => LineCells {
-            refusal: accepted(),
-            cells,
-        },
-        Err(e) => LineCells {
-            refusal: e.into(),
-            cells: [0u8; 81],
-        },
-    }
-}
-
-// The digits of a puzzle as givens, for those who have read one otherwise.
-pub fn givens_of(digits: &[u8; 81]) -> Givens
-    ensures { result ≡ digits_givens digits.now }
-{
-    let mut bytes = [0u8; GIVENS_ROOM];
-    let length = lay_givens(digits, &mut bytes);
-    Givens { bytes, length }
 }
