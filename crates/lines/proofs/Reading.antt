@@ -25,7 +25,7 @@ use Rattle.puzzle.proofs.Refusals.{refused_if_lem, or_else_by, or_else_past}
 use Rattle.puzzle.proofs.GivensBy.{by_same, by_room, bytes_left, bytes_turn, bytes_none}
 use Rattle.journal.specs.Bytes.{over}
 use Rattle.record.specs.Write.{wrote}
-use Rattle.record.proofs.Writing.{wrote_nothing, wrote_bytes}
+use Rattle.record.proofs.Writing.{wrote_bytes}
 use Rattle.lines.specs.Lines.{line_bytes, givens_room, is_line, value_at, other_sort, line_refusal, values_of, line_givens, digits_bytes, read_refusal, read_line_of}
 use Rattle.lines.specs.Code.Triples.{given_bytes}
 
@@ -136,10 +136,6 @@ module _ (line output : List ℕ) where
     by_line : read_refusal line output ≡ r
     unfolding read_refusal
     by_line = or_else_past _ _ (if_not _ (refusal 34 0 0) (le-ltb (length output) givens_room room)) ∙ sym e
-
-    pub not_read : (r.number ≡ 0 → ⊥) → wrote r 0 output ≡ read_line_of line output
-    unfolding read_line_of
-    not_read n = wrote_nothing (read_refusal line output) bytes output r by_line n
 
     pub is_read : r.number ≡ 0 → wrote accepted (length bytes) (over output 0 bytes) ≡ read_line_of line output
     unfolding read_line_of
