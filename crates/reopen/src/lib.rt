@@ -73,7 +73,7 @@ fn with_parts(board: Board, digits: [u8; 81], notes: [u16; 81], solved: u8, coun
 }
 
 // All moves performed in order, the first of which stands at `start`.
-// On parts, as `make_in` is lent them: a board lent for both arrays at once is copied at each move (docs/DECISIONS.md, 29).
+// On parts, as `make_in` is lent them: a board lent for both arrays is copied at each move (docs/DECISIONS.md, 29).
 fn replay(
     bytes: &[u8],
     start: usize,
