@@ -82,7 +82,7 @@ module _ (before after : Input) (byte : Option ℕ) where
         within = λ h. subst Within (sym f) (end_stays read fits);
       }
 
--- ---- what is read so far: the bytes of the line, and what of the input is not used behind the byte that was taken last
+-- ---- what is read so far: the bytes of the line, and what of the input is not used behind the last byte taken
 
 pub record Going (before now : Input) (l : Line) : Type 0 where
   pub bytes : List ℕ

@@ -69,8 +69,8 @@ pub record Keeps (bytes : List ℕ) (l : Line) : Type 0 where
   pub keeps : l ≡ with_bytes empty_line bytes
   pub fits : l.length ≤ line_bytes + 1
 
--- a line was read: its bytes, up to its end, are what was read and not used, and what was read anew; what follows them is
--- not used afterwards
+-- a line was read: its bytes, up to its end, are what was read and not used, and what was read anew; what follows them
+-- is not used afterwards
 pub record LineRead (before after : Input) (got : Option Line) : Type 0 where
   pub bytes : List ℕ
   pub line : is_line bytes ≡ true

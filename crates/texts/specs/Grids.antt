@@ -11,8 +11,8 @@ use Rattle.texts.specs.declared.CellsError.TheVariants.{Wrong, Many, Few}
 unfoldable pub is_space : ℕ → Bool
 is_space byte = either (eqb byte 32) (both (leb 9 byte) (leb byte 13))
 
--- what is found in a text: how many cells (82 where there are more than 81), the first 81 of them, and the first character
--- that is neither a cell nor white space, counted from 1; 0 where there is none
+-- what is found in a text: how many cells (82 where there are more than 81), the first 81 of them, and the first
+-- character that is neither a cell nor white space, counted from 1; 0 where there is none
 pub record Cells : Type 0 where
   pub cells : List ℕ
   pub count : ℕ
@@ -45,8 +45,8 @@ with_character s n byte =
 unfoldable pub cells_of : List ℕ → Cells
 cells_of text = run (λ s i. with_character s (i + 1) (get_or text i 0)) no_cells (length text) 0
 
--- the 81 cells of what was found in a text, or why it has not 81: by its first wrong character, counted from 1, or else by
--- how many there are
+-- the 81 cells of what was found in a text, or why it has not 81: by its first wrong character, counted from 1, or else
+-- by how many there are
 unfoldable pub judged : Cells → Result (List ℕ) CellsError
 judged s =
     pick (eqb s.wrong 0)

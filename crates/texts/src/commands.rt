@@ -102,8 +102,8 @@ fn verb_of_letter(letter: u8) -> Verb
     }
 }
 
-// The command of play that a name says. Not by a match on the name: its proof has a goal for each byte at which the names
-// part.
+// The command of play that a name says. Not by a match on the name: its proof would have a goal for each byte at which
+// the names part.
 fn verb_of_play(name: &[u8]) -> Option<Verb>
     ensures { result ≡ found (verb_of_play name.now) }
 {

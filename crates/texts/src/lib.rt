@@ -8,8 +8,8 @@ ghost use Rattle.texts.specs.Parts.{part_of};
 pub mod commands;
 pub mod grids;
 
-// Why a text is not 81 cells: its first character, counted from 1, that is neither a cell nor white space; or that it has
-// more cells, or how many it has.
+// Why a text is not 81 cells: its first character, counted from 1, that is neither a cell nor white space; or that it
+// has more cells, or how many it has.
 #[derive(Clone, Copy, PartialEq, Eq)]
 pub enum CellsError {
     Wrong { character: usize },
