@@ -12,8 +12,9 @@ use board::error::PlayError;
 use journal::SLOT_BYTES;
 use play::shown::{latest_slot, next_slot};
 use puzzle::Refusal;
-use puzzle::answer::{accepted, refusal};
+use puzzle::answer::accepted;
 use readings::Reading;
+use record::error::WriteError;
 
 // Zeros beside a refusal.
 fn not_shown(refusal: Refusal) -> Shown
@@ -39,7 +40,7 @@ fn shown(slot: Result<&[u8], PlayError>, others: usize, output: &mut [u8]) -> Sh
         Err(e) => return not_shown(e.into()),
     };
     if output.len() < SLOT_BYTES {
-        return not_shown(refusal(34, 0, 0));
+        return not_shown(WriteError::OutputTooShort.into());
     }
     output[..SLOT_BYTES].copy_from_slice(part);
     Shown {
