@@ -9,7 +9,8 @@ const INPUT_BYTES: usize = 4096;
 // The most bytes of a line that is taken.
 pub const LINE_BYTES: usize = 256;
 
-// Standard input: what of it was read and is not used stands in the buffer from `at` on, before `end`.
+// Standard input: what of it was read and is not used stands in the buffer from `at` on, before `end`. The memory of
+// both structs is fixed, so that the console needs no heap.
 #[derive(Clone, Copy)]
 pub struct Input {
     buffer: [u8; INPUT_BYTES],
