@@ -18,19 +18,11 @@ use Rattle.lines.specs.Lines.{line_refusal, values_of, digits_bytes}
 use Rattle.lines.proofs.Answered.{has_number_of}
 use Rattle.lines.proofs.Reading.{digits_of_line}
 use Rattle.files.specs.Disk.{Content, cells_in}
-use Rattle.files.specs.Load.{left, nothing_loaded, stays, loaded_board, takes_place, load_file, load_solved, load_of, open_line, load_line}
+use Rattle.files.specs.Load.{left, nothing_loaded, stays, takes_place, load_file, load_solved, load_of, open_line, load_line}
 
 -- what was opened in memory apart
 
 module _ (o : Opened) (journal checks : List ℕ) where
-  pub refused_apart : (o.answer.refusal.number ≡ 0 → ⊥) → left nothing_loaded journal checks ≡ takes_place o journal checks
-  unfolding takes_place stays is_accepted
-  refused_apart n = sym (pick_false _ _ _ (ne_eqb o.answer.refusal.number 0 n))
-
-  pub opened_apart : o.answer.refusal.number ≡ 0 → left (loaded_board o.answer.board) o.journal o.checks ≡ takes_place o journal checks
-  unfolding takes_place is_accepted
-  opened_apart n = sym (pick_true _ _ _ (eq-eqb o.answer.refusal.number 0 n))
-
   pub given_apart : (a : Answer) (j c : List ℕ) → Gives o a j c → takes_place (record { answer = a; journal = j; checks = c }) journal checks ≡ takes_place o journal checks
   given_apart a j c gives = λ i. takes_place (record { answer = gives.answer i; journal = gives.journal i; checks = gives.checks i }) journal checks
 

@@ -26,6 +26,7 @@ fn is_record(bytes: &[u8]) -> bool
 }
 
 // Whether a file is a record, or a text of 81 cells.
+#[tactic(auto, using(crate::proofs::Whole::some_is_whole), unfolding(crate::specs::Load::is_openable, sudoku::specs::Tests::either))]
 fn is_openable(path: &[u8], bytes: &[u8]) -> bool
     ensures { result ≡ is_openable bytes.now }
 {
@@ -34,6 +35,7 @@ fn is_openable(path: &[u8], bytes: &[u8]) -> bool
 
 impl Memory {
     // Reopens a record, or opens a puzzle. A puzzle's text is taken as far as it has cells.
+    #[tactic(auto, unfolding(crate::specs::Load::open_bytes, sudoku::specs::Tests::pick))]
     pub fn open_bytes(&mut self, bytes: &[u8], right: &[u8; 81]) -> Answer
         ensures { Gives (open_bytes bytes.now right.now self.old.journal self.old.checks) result self.new.journal self.new.checks }
     {
@@ -53,6 +55,7 @@ impl Memory {
     }
 
     // What was opened in memory apart takes the place of this memory, where all went well.
+    #[tactic(auto, unfolding(crate::specs::Load::takes_place, crate::specs::Load::stays, puzzle::specs::Refusals::is_accepted, sudoku::specs::Tests::pick))]
     fn take_up(&mut self, answer: Answer, own: &Memory) -> Option<Board>
         ensures { left result self.new.journal self.new.checks ≡ takes_place (record { answer = answer; journal = own.now.journal; checks = own.now.checks }) self.old.journal self.old.checks }
     {
@@ -65,6 +68,7 @@ impl Memory {
     }
 
     // What the bytes of a file open, with a solution.
+    #[tactic(auto, unfolding(crate::specs::Load::load_bytes, crate::specs::Load::stays, sudoku::specs::Tests::pick))]
     fn load_bytes(&mut self, path: &[u8], bytes: &[u8], right: &[u8; 81]) -> Option<Board>
         ensures { left result self.new.journal self.new.checks ≡ load_bytes bytes.now right.now self.old.journal self.old.checks }
     {
@@ -121,6 +125,7 @@ impl Memory {
 
     // A mailed line with the line of its solution, both taken strictly. A blank in the solution is a cell without a
     // digit, which opening refuses.
+    #[tactic(auto, using(crate::proofs::Loading::solution_read))]
     pub fn load_line(&mut self, line: &[u8], solution: &[u8]) -> Option<Board>
         ensures { left result self.new.journal self.new.checks ≡ load_line line.now solution.now self.old.journal self.old.checks }
     {

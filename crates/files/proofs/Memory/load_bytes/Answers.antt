@@ -1,16 +1,12 @@
 -- `files::Memory::load_bytes` meets its contract.
 -- Assumes nothing.
 use mathlib.Core.Path.{sym, subst, ◌∙◌}
-use Rattle.sudoku.proofs.Walks.{pick_true, pick_false}
+use Rattle.sudoku.proofs.Walks.{pick_true}
 use Rattle.board.specs.Open.{no_moves, no_checks, Gives}
 use Rattle.files.specs.declared.Memory.{Memory}
-use Rattle.files.specs.Load.{stays, open_bytes, open_apart, load_bytes}
+use Rattle.files.specs.Load.{open_bytes, open_apart, load_bytes}
 use Rattle.files.proofs.Loading.{given_apart}
 use Rattle.files.proofs.Memory.load_bytes.Goals as goal
-
-pub returns-then-not-is_openable : goal.returns-then-not-is_openable
-unfolding load_bytes stays
-returns-then-not-is_openable c = sym (pick_false _ _ _ (sym c.is_openable.ensures ∙ c.if-not-is_openable.true))
 
 pub returns : goal.returns
 unfolding load_bytes open_apart
