@@ -1,7 +1,7 @@
 -- How the code reads a record: what a kind byte decides, the item at an offset, and
 -- one item after the other counted; and what a scan of the whole record answers.
 -- Assumes nothing.
-use Rattle.std.specs.Prelude.{ℕ, ◌+◌, ◌^◌, ◌<◌, Bool, not, List, [], ◌∷◌, Option, Some, None, leb, ltb, eqb, length, drop, get_or}
+use Rattle.std.specs.Prelude.{ℕ, ◌+◌, ◌^◌, ◌<◌, Bool, not, List, [], ◌∷◌, Option, Some, None, leb, ltb, eqb, length, get_or}
 use Rattle.sudoku.specs.Tests.{pick, both, either}
 use Rattle.puzzle.specs.declared.Refusal.{Refusal}
 use Rattle.puzzle.specs.Refusals.{refusal, refused_if, or_else}
@@ -136,14 +136,6 @@ item_step s (Given row column digit) next = given_step s next
 item_step s (Played m) next = move_step s next
 item_step s (Undone n) next = undone_step s next n
 item_step s (Check standing row column digit) next = check_step s next standing
-
-unfoldable pub read_step : Progress → Option Read → Option Progress
-read_step s (Some r) = item_step s r.item r.next
-read_step s None = None
-
--- the item that stands next in the bytes, counted
-unfoldable pub step_of : List ℕ → Progress → Option Progress
-step_of bytes s = read_step s (read_of s.at (taken (drop s.at bytes)))
 
 -- ---- the whole record
 
