@@ -17,7 +17,7 @@ use note::contains;
 use sudoku::{cell_of, peers};
 
 // The mark written at a cell. Answered is whether it was lacking there.
-pub fn write_lacking(notes: &mut [u16; 81], cell: usize, digit: u8) -> bool
+pub(crate) fn write_lacking(notes: &mut [u16; 81], cell: usize, digit: u8) -> bool
     ensures { (result ≡ not (contains_of (at notes.old cell) digit)) × (notes.new ≡ write_at notes.old cell digit) }
 {
     let stood = contains(note_at(notes, cell), digit);
@@ -26,7 +26,7 @@ pub fn write_lacking(notes: &mut [u16; 81], cell: usize, digit: u8) -> bool
 }
 
 // The mark struck at a cell. Answered is whether it stood there.
-pub fn strike_standing(notes: &mut [u16; 81], cell: usize, digit: u8) -> bool
+pub(crate) fn strike_standing(notes: &mut [u16; 81], cell: usize, digit: u8) -> bool
     ensures { (result ≡ contains_of (at notes.old cell) digit) × (notes.new ≡ strike_at notes.old cell digit) }
 {
     let stood = contains(note_at(notes, cell), digit);
