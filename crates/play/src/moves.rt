@@ -1,20 +1,18 @@
 // The four moves: what each one does to the board, what it displaces, and how it is recorded.
-// A call works on the board of its answer in place, digits and notes one after the other:
-// over both at once, or by value, it takes 13 to 24 ns longer (docs/DECISIONS.md, 29).
-ghost use Rattle.std.specs.Prelude.{ℕ, ◌*◌, ◌≡◌, List};
-ghost use Rattle.sudoku.specs.Grid.{put, peers_of};
-ghost use Rattle.journal.specs.State.{put_digit, strike_all, perform as perform_of};
+ghost use Rattle.std.specs.Prelude.{◌*◌, ◌≡◌};
+ghost use Rattle.sudoku.specs.Grid.{put as put_of};
+ghost use Rattle.journal.specs.State.{put_digit, perform as perform_of};
+ghost use Rattle.journal.specs.Counts.{recorded};
 ghost use Rattle.journal.specs.Limits.{slot_bytes};
 ghost use Rattle.journal.specs.Code.Laid.{laid};
 ghost use Rattle.journal.specs.Slots.{slot_for, plain_slot, bytes_of};
-ghost use Rattle.play.specs.Code.Parts.{parts};
+ghost use Rattle.board.specs.Board.{state_of, counts_of, moved};
 ghost use Rattle.play.specs.Play.{play_of};
 
 use crate::tests::call_test;
 use board::{Answer, Board};
 use journal::notes::{holders, strike_all_in, strike_in, write_in};
 use journal::slots::write_slot;
-use journal::steps::after_record;
 use journal::{Counts, ERASE, Move, PLACE, STRIKE_MARK, Slot, WRITE_MARK};
 use puzzle::answer::accepted;
 use puzzle::{digit_at, index_of, settled};
@@ -22,7 +20,7 @@ use sudoku::{cell_of, peers};
 
 // A digit put at a cell, in place; where the grid has no such cell the digits stay as they are.
 fn set_digit(digits: &mut [u8; 81], cell: usize, digit: u8)
-    ensures { digits.new ≡ put digits.old cell digit }
+    ensures { digits.new ≡ put_of digits.old cell digit }
 {
     let all: &mut [u8] = digits;
     let at = index_of(cell);
@@ -32,54 +30,36 @@ fn set_digit(digits: &mut [u8; 81], cell: usize, digit: u8)
     all[at] = digit;
 }
 
-// A digit put into a cell, in place, which settles the status
-// that is answered; 0 empties the cell, which settles nothing.
-pub fn put_in(digits: &mut [u8; 81], solved: u8, cell: usize, digit: u8) -> u8
-    ensures { (given notes : List ℕ) → (result ≡ (put_digit (parts given digits.old notes solved) cell digit).solved) × (digits.new ≡ (put_digit (parts given digits.old notes solved) cell digit).digits) }
+// A digit put into a cell, which settles the status; 0 empties the cell, which settles nothing.
+#[tactic(auto, unfolding(board::specs::Board::state_of, board::specs::Board::counts_of, board::specs::Board::board_of, board::specs::Board::moved, journal::specs::State::put_digit, sudoku::specs::Tests::pick))]
+pub fn put(board: &mut Board, cell: usize, digit: u8)
+    ensures { board.new ≡ moved board.old (put_digit (state_of board.old) cell digit) (counts_of board.old) }
 {
-    set_digit(digits, cell, digit);
-    if digit == 0 {
-        return solved;
-    }
-    settled(digits, solved)
-}
-
-// What a move does to the digits, in place; the status afterwards is answered.
-pub fn perform_digit(digits: &mut [u8; 81], solved: u8, m: Move) -> u8
-    ensures { (given notes : List ℕ) → (result ≡ (perform_of (parts given digits.old notes solved) m).solved) × (digits.new ≡ (perform_of (parts given digits.old notes solved) m).digits) }
-{
-    match m {
-        Move::Place { row, column, digit } => put_in(digits, solved, cell_of(row, column), digit),
-        Move::Erase { row, column } => put_in(digits, solved, cell_of(row, column), 0),
-        Move::WriteMark {
-            row: _,
-            column: _,
-            digit: _,
-        } => solved,
-        Move::StrikeMark {
-            row: _,
-            column: _,
-            digit: _,
-        } => solved,
+    set_digit(&mut board.digits, cell, digit);
+    if digit != 0 {
+        board.solved = settled(&board.digits, board.solved);
     }
 }
 
-// The mark struck from the kept note of each peer of a cell that has it. The target's own note stays.
-fn strike_peers(notes: &mut [u16; 81], cell: usize, digit: u8)
-    ensures { notes.new ≡ strike_all notes.old digit (peers_of cell) }
-{
-    strike_all_in(notes, digit, peers(cell));
-}
-
-// What a move does to the kept notes, in place.
-pub fn perform_notes(notes: &mut [u16; 81], m: Move)
-    ensures { (given digits : List ℕ) (solved : ℕ) → notes.new ≡ (perform_of (parts given digits notes.old solved) m).notes }
+// What a move does to the board. A place strikes the mark from each
+// peer of its cell that has it; the cell's own note stays.
+#[tactic(auto, unfolding(board::specs::Board::state_of, board::specs::Board::counts_of, board::specs::Board::board_of, board::specs::Board::moved, journal::specs::State::perform, journal::specs::State::put_digit, journal::specs::State::with_notes))]
+pub fn perform(board: &mut Board, m: Move)
+    ensures { board.new ≡ moved board.old (perform_of (state_of board.old) m) (counts_of board.old) }
 {
     match m {
-        Move::Place { row, column, digit } => strike_peers(notes, cell_of(row, column), digit),
-        Move::Erase { row: _, column: _ } => {}
-        Move::WriteMark { row, column, digit } => write_in(notes, cell_of(row, column), digit),
-        Move::StrikeMark { row, column, digit } => strike_in(notes, cell_of(row, column), digit),
+        Move::Place { row, column, digit } => {
+            let cell = cell_of(row, column);
+            put(board, cell, digit);
+            strike_all_in(&mut board.notes, digit, peers(cell));
+        }
+        Move::Erase { row, column } => put(board, cell_of(row, column), 0),
+        Move::WriteMark { row, column, digit } => {
+            write_in(&mut board.notes, cell_of(row, column), digit);
+        }
+        Move::StrikeMark { row, column, digit } => {
+            strike_in(&mut board.notes, cell_of(row, column), digit);
+        }
     }
 }
 
@@ -88,33 +68,51 @@ fn plain_slot(kind: u8, row: u8, column: u8, digit: u8, before: u8) -> Slot
     ensures { result ≡ plain_slot kind row column digit before }
 {
     Slot {
-        kind: kind,
-        row: row,
-        column: column,
-        digit: digit,
-        before: before,
+        kind,
+        row,
+        column,
+        digit,
+        before,
         struck: 0,
     }
 }
 
 // The slot of a move with what it displaces: the digit before, and the peers that lose the mark.
-pub fn slot_of<'a>(digits: &'a [u8; 81], notes: &'a [u16; 81], m: Move) -> Slot
-    ensures { (given : List ℕ) (solved : ℕ) → result ≡ slot_for (parts given digits.now notes.now solved) m }
+#[tactic(auto, unfolding(board::specs::Board::state_of, journal::specs::State::kind_of, journal::specs::State::row_in, journal::specs::State::column_in, journal::specs::State::digit_in, journal::specs::State::before, journal::specs::State::struck, journal::specs::State::digit_at, journal::specs::Slots::slot_for, journal::specs::Slots::plain_slot))]
+pub fn slot_of(board: &Board, m: Move) -> Slot
+    ensures { result ≡ slot_for (state_of board.now) m }
 {
     match m {
         Move::Place { row, column, digit } => {
             let cell = cell_of(row, column);
-            let mut slot = plain_slot(PLACE, row, column, digit, digit_at(digits, cell));
-            slot.struck = holders(notes, digit, peers(cell));
+            let mut slot = plain_slot(PLACE, row, column, digit, digit_at(&board.digits, cell));
+            slot.struck = holders(&board.notes, digit, peers(cell));
             slot
         }
         Move::Erase { row, column } => {
-            let before = digit_at(digits, cell_of(row, column));
+            let before = digit_at(&board.digits, cell_of(row, column));
             plain_slot(ERASE, row, column, 0, before)
         }
         Move::WriteMark { row, column, digit } => plain_slot(WRITE_MARK, row, column, digit, 0),
         Move::StrikeMark { row, column, digit } => plain_slot(STRIKE_MARK, row, column, digit, 0),
     }
+}
+
+// A move recorded in its slot, performed and counted, on a board in place. Reopening makes its moves so, one after
+// the other; nothing is asked.
+#[tactic(auto, unfolding(board::specs::Board::state_of, board::specs::Board::counts_of, board::specs::Board::board_of, board::specs::Board::moved))]
+pub fn make(board: &mut Board, journal: &mut [u8], m: Move)
+    ensures { (board.new ≡ moved board.old (perform_of (state_of board.old) m) (recorded (counts_of board.old))) × (journal.new ≡ laid journal.old (slot_bytes * board.old.standing) (bytes_of (slot_for (state_of board.old) m))) }
+{
+    write_slot(journal, board.standing, slot_of(board, m));
+    perform(board, m);
+    let counts = Counts {
+        made: board.made,
+        standing: board.standing,
+    };
+    let after = counts.recorded();
+    board.made = after.made;
+    board.standing = after.standing;
 }
 
 // A call that makes a move. Refused by the numbers of the move, and by 1 2 15.
@@ -123,41 +121,12 @@ pub fn play(board: Board, journal: &mut [u8], m: Move) -> Answer
 {
     let mut answer = Answer {
         refusal: accepted(),
-        board: board,
+        board,
     };
-    if let Err(e) = call_test(board, journal, m) {
+    if let Err(e) = call_test(board, &answer.board, journal, m) {
         answer.refusal = e.into();
         return answer;
     }
-    let slot = slot_of(&answer.board.digits, &answer.board.notes, m);
-    write_slot(journal, board.standing, slot);
-    let counts = after_record(Counts {
-        made: board.made,
-        standing: board.standing,
-    });
-    let solved = perform_digit(&mut answer.board.digits, board.solved, m);
-    perform_notes(&mut answer.board.notes, m);
-    answer.board.solved = solved;
-    answer.board.made = counts.made;
-    answer.board.standing = counts.standing;
+    make(&mut answer.board, journal, m);
     answer
-}
-
-// A move performed and recorded on parts that are lent, in place; the status afterwards
-// is answered. Reopening makes its moves so, one after the other, and copies no board for
-// a move; a call that lent its answer's digits and notes together would copy them first.
-pub fn make_in(
-    digits: &mut [u8; 81],
-    notes: &mut [u16; 81],
-    solved: u8,
-    standing: usize,
-    journal: &mut [u8],
-    m: Move,
-) -> u8
-    ensures { (given : List ℕ) → (parts given digits.new notes.new result ≡ perform_of (parts given digits.old notes.old solved) m) × (journal.new ≡ laid journal.old (slot_bytes * standing) (bytes_of (slot_for (parts given digits.old notes.old solved) m))) }
-{
-    let slot = slot_of(digits, notes, m);
-    write_slot(journal, standing, slot);
-    perform_notes(notes, m);
-    perform_digit(digits, solved, m)
 }

@@ -1,13 +1,13 @@
 // Why a move is refused: 3 to 11, tested in their order, and the tests of the whole call.
-#![tactic(auto, unfolding(sudoku::specs::Tests::first, sudoku::specs::Tests::pick, sudoku::specs::Tests::both, journal::specs::State::digit_at, journal::specs::State::note_at, journal::specs::State::holds_players_digit, journal::specs::State::accepts_marks, crate::specs::Play::move_tests))]
+#![tactic(auto, unfolding(sudoku::specs::Tests::first, sudoku::specs::Tests::pick, sudoku::specs::Tests::both, board::specs::Board::state_of, journal::specs::State::digit_at, journal::specs::State::note_at, journal::specs::State::holds_players_digit, journal::specs::State::accepts_marks, crate::specs::Play::move_tests))]
 
-ghost use Rattle.std.specs.Prelude.{ℕ, ◌≡◌, not, List, [], ◌∷◌};
+ghost use Rattle.std.specs.Prelude.{◌≡◌, not, [], ◌∷◌};
 ghost use Rattle.puzzle.specs.Givens.{is_on};
 ghost use Rattle.sudoku.specs.Tests.{◌⇒◌, first};
 ghost use Rattle.sudoku.specs.Grid.{on_grid};
 ghost use Rattle.journal.specs.declared.Move.TheVariants.{Place, Erase, WriteMark, StrikeMark};
+ghost use Rattle.board.specs.Board.{state_of};
 ghost use Rattle.board.specs.Errors.{number_told};
-ghost use Rattle.play.specs.Code.Parts.{parts};
 ghost use Rattle.play.specs.Play.{move_tests, call_tests};
 
 use board::Board;
@@ -22,135 +22,100 @@ use puzzle::{digit_at, holds_digit};
 use sudoku::{cell_of, in_range, on_grid};
 
 // 3 and 4, which every move tests first.
-fn cell_test(solved: u8, row: u8, column: u8) -> Result<(), PlayError>
-    ensures { number_told result ≡ first ((not (on_grid row column) ⇒ 3) ∷ (is_on solved ⇒ 4) ∷ []) }
+fn cell_test(board: &Board, row: u8, column: u8) -> Result<(), PlayError>
+    ensures { number_told result ≡ first ((not (on_grid row column) ⇒ 3) ∷ (is_on board.now.solved ⇒ 4) ∷ []) }
 {
     if !on_grid(row, column) {
         return Err(PlayError::NoSuchCell);
     }
-    if solved != 0 {
+    if board.solved != 0 {
         return Err(PlayError::Solved);
     }
     Ok(())
 }
 
 // 3 4 5 8 9.
-fn place_test<'a>(
-    digits: &'a [u8; 81],
-    given: &'a [u8; 81],
-    solved: u8,
-    row: u8,
-    column: u8,
-    digit: u8,
-) -> Result<(), PlayError>
-    ensures { (notes : List ℕ) → number_told result ≡ first (move_tests (parts given.now digits.now notes solved) (Place row column digit)) }
+fn place_test(board: &Board, row: u8, column: u8, digit: u8) -> Result<(), PlayError>
+    ensures { number_told result ≡ first (move_tests (state_of board.now) (Place row column digit)) }
 {
-    cell_test(solved, row, column)?;
+    cell_test(board, row, column)?;
     let cell = cell_of(row, column);
-    if is_given(given, cell) {
+    if is_given(&board.given, cell) {
         return Err(PlayError::GivenCell);
     }
     if !in_range(digit) {
         return Err(PlayError::DigitOutOfRange);
     }
-    if digit_at(digits, cell) == digit {
+    if digit_at(&board.digits, cell) == digit {
         return Err(PlayError::DigitAlreadyStands);
     }
     Ok(())
 }
 
 // 3 4 6.
-fn erase_test<'a>(
-    digits: &'a [u8; 81],
-    given: &'a [u8; 81],
-    solved: u8,
-    row: u8,
-    column: u8,
-) -> Result<(), PlayError>
-    ensures { (notes : List ℕ) → number_told result ≡ first (move_tests (parts given.now digits.now notes solved) (Erase row column)) }
+fn erase_test(board: &Board, row: u8, column: u8) -> Result<(), PlayError>
+    ensures { number_told result ≡ first (move_tests (state_of board.now) (Erase row column)) }
 {
-    cell_test(solved, row, column)?;
-    if !holds_players_digit(digits, given, cell_of(row, column)) {
+    cell_test(board, row, column)?;
+    if !holds_players_digit(&board.digits, &board.given, cell_of(row, column)) {
         return Err(PlayError::NoPlayersDigit);
     }
     Ok(())
 }
 
 // 3 4 7 8 10.
-fn write_mark_test<'a>(
-    digits: &'a [u8; 81],
-    notes: &'a [u16; 81],
-    solved: u8,
-    row: u8,
-    column: u8,
-    mark: u8,
-) -> Result<(), PlayError>
-    ensures { (given : List ℕ) → number_told result ≡ first (move_tests (parts given digits.now notes.now solved) (WriteMark row column mark)) }
+fn write_mark_test(board: &Board, row: u8, column: u8, mark: u8) -> Result<(), PlayError>
+    ensures { number_told result ≡ first (move_tests (state_of board.now) (WriteMark row column mark)) }
 {
-    cell_test(solved, row, column)?;
+    cell_test(board, row, column)?;
     let cell = cell_of(row, column);
-    if holds_digit(digits, cell) {
+    if holds_digit(&board.digits, cell) {
         return Err(PlayError::MarksNotAccepted);
     }
     if !in_range(mark) {
         return Err(PlayError::DigitOutOfRange);
     }
-    if contains(note_at(notes, cell), mark) {
+    if contains(note_at(&board.notes, cell), mark) {
         return Err(PlayError::MarkAlreadyWritten);
     }
     Ok(())
 }
 
 // 3 4 7 11.
-fn strike_mark_test<'a>(
-    digits: &'a [u8; 81],
-    notes: &'a [u16; 81],
-    solved: u8,
-    row: u8,
-    column: u8,
-    mark: u8,
-) -> Result<(), PlayError>
-    ensures { (given : List ℕ) → number_told result ≡ first (move_tests (parts given digits.now notes.now solved) (StrikeMark row column mark)) }
+fn strike_mark_test(board: &Board, row: u8, column: u8, mark: u8) -> Result<(), PlayError>
+    ensures { number_told result ≡ first (move_tests (state_of board.now) (StrikeMark row column mark)) }
 {
-    cell_test(solved, row, column)?;
+    cell_test(board, row, column)?;
     let cell = cell_of(row, column);
-    if holds_digit(digits, cell) {
+    if holds_digit(&board.digits, cell) {
         return Err(PlayError::MarksNotAccepted);
     }
-    if !contains(note_at(notes, cell), mark) {
+    if !contains(note_at(&board.notes, cell), mark) {
         return Err(PlayError::MarkNotThere);
     }
     Ok(())
 }
 
-// 3 to 11, asked of a board's parts.
-pub fn move_test<'a>(
-    digits: &'a [u8; 81],
-    given: &'a [u8; 81],
-    notes: &'a [u16; 81],
-    solved: u8,
-    m: Move,
-) -> Result<(), PlayError>
-    ensures { number_told result ≡ first (move_tests (parts given.now digits.now notes.now solved) m) }
+// Why a move is refused: 3 to 11.
+pub fn move_test(board: &Board, m: Move) -> Result<(), PlayError>
+    ensures { number_told result ≡ first (move_tests (state_of board.now) m) }
 {
     match m {
-        Move::Place { row, column, digit } => place_test(digits, given, solved, row, column, digit),
-        Move::Erase { row, column } => erase_test(digits, given, solved, row, column),
-        Move::WriteMark { row, column, digit } => write_mark_test(
-            digits, notes, solved, row, column, digit,
-        ),
-        Move::StrikeMark { row, column, digit } => strike_mark_test(
-            digits, notes, solved, row, column, digit,
-        ),
+        Move::Place { row, column, digit } => place_test(board, row, column, digit),
+        Move::Erase { row, column } => erase_test(board, row, column),
+        Move::WriteMark { row, column, digit } => write_mark_test(board, row, column, digit),
+        Move::StrikeMark { row, column, digit } => strike_mark_test(board, row, column, digit),
     }
 }
 
-// A call that makes a move: 1 and 2, those of the move, 15.
-pub fn call_test(board: Board, journal: &[u8], m: Move) -> Result<(), PlayError>
+// A call that makes a move: 1 and 2, those of the move, 15. Number 2 reads the whole board, and so the one that came;
+// the move is asked of its copy in the answer. A board by value that is lent would be copied once more.
+pub fn call_test(board: Board, copy: &Board, journal: &[u8], m: Move) -> Result<(), PlayError>
+    requires { copy.now ≡ board }
     ensures { number_told result ≡ first (call_tests board journal.now m) }
 {
     lent(board, journal.len() == JOURNAL_BYTES)?;
-    move_test(&board.digits, &board.given, &board.notes, board.solved, m)?;
+    move_test(copy, m)?;
     if board.standing == MAX_MOVES {
         return Err(PlayError::JournalFull);
     }

@@ -1,18 +1,20 @@
 -- A call that goes over a recorded move, in two steps, as the code goes: the tests that need no slot, and then the slot.
 -- Assumes nothing.
 use Prim.Native.Nat.{ℕ, ◌<◌}
-use mathlib.Core.Path.{◌≡◌, sym, ap, ◌∙◌}
+use mathlib.Core.Path.{◌≡◌, refl, sym, ap, ◌∙◌}
 use mathlib.Core.Bool.{Bool, true, false, not, ◌&&◌}
 use mathlib.Core.List.{List, [], ◌∷◌, ◌++◌}
 use native.Mathlib.Omega.{arith}
 use borrow.Author.Tests.{eq-eqb, ne_eqb}
 use lib.ListN.{length}
+use Rattle.std.specs.Prelude.{Option, Some, None}
+use Rattle.journal.specs.declared.DigitChange.{DigitChange}
 use Rattle.sudoku.specs.Tests.{Test, ◌⇒◌, first, pick}
 use Rattle.sudoku.specs.Grid.{cell_of}
 use Rattle.sudoku.proofs.Walks.{pick_true, pick_false, refused, both_first, both_false_left, and_both}
 use Rattle.puzzle.specs.Refusals.{refusal, accepted}
 use Rattle.journal.specs.declared.Slot.{Slot}
-use Rattle.journal.specs.State.{State}
+use Rattle.journal.specs.State.{State, put_digit}
 use Rattle.journal.specs.Slots.{move_of, digit_change, slot_at, is_sound}
 use Rattle.board.specs.declared.Board.{Board}
 use Rattle.board.specs.declared.error.PlayError.{PlayError}
@@ -22,7 +24,7 @@ use Rattle.board.specs.Open.{answer}
 use Rattle.board.proofs.Numbers.{last_if}
 use Rattle.board.proofs.Told.{Numbered, has_number, told_err, told_ok}
 use Rattle.play.proofs.Accepted.{slot_plain, slot_14}
-use Rattle.undo.specs.Code.Ways.{Way, Laws, digit_stood, marks_stood, before_slot, fits, call_of}
+use Rattle.undo.specs.Code.Ways.{Way, Laws, digit_gone, digit_stood, marks_stood, before_slot, fits, call_of}
 
 -- a number below 14 has no place
 abbrev Below : List Test → Type 0
@@ -38,6 +40,12 @@ first_below : (ts : List Test) → Below ts → first ts < 14
 unfolding first
 first_below [] q = omega arith
 first_below (t ∷ ts) q = pick_below t.holds t.number (first ts) q.0 (first_below ts q.1)
+
+-- the digit leaves the notes
+pub notes_stay : (w : Way) (s : State) (cell : ℕ) (change : Option DigitChange) → (digit_gone w s cell change).notes ≡ s.notes
+unfolding digit_gone put_digit
+notes_stay w s cell (Some change) = refl
+notes_stay w s cell None = refl
 
 module _ (w : Way) (laws : Laws w) where
   -- what is asked of the parts of a state, where the slot is sound

@@ -7,15 +7,14 @@ pub mod digits;
 pub mod direction;
 pub mod marks;
 
-ghost use Rattle.std.specs.Prelude.{ℕ, ◌≡◌, List, length, IfOk};
+ghost use Rattle.std.specs.Prelude.{◌≡◌, length, IfOk};
 ghost use Rattle.sudoku.specs.Tests.{first};
 ghost use Rattle.puzzle.specs.Refusals.{told};
 ghost use Rattle.journal.specs.State.{perform_again};
 ghost use Rattle.journal.specs.Slots.{move_of};
-ghost use Rattle.board.specs.Board.{counts_of};
+ghost use Rattle.board.specs.Board.{state_of, counts_of, moved};
 ghost use Rattle.board.specs.Errors.{number_told};
 ghost use Rattle.board.specs.Open.{answer};
-ghost use Rattle.play.specs.Code.Parts.{parts};
 ghost use Rattle.play.specs.Play.{undo_of, redo_of};
 ghost use Rattle.undo.specs.Code.Ways.{before_slot, call_of};
 
@@ -57,9 +56,9 @@ fn go<D: Direction>(board: &mut Board, before: Board, journal: &[u8]) -> Result<
     if !is_sound(&board.given, slot) {
         return Err(Refusal::from(Unsound::Slot { index: n })); // before anything is changed
     }
-    let digit = digits::put::<D>(&mut board.digits, before.solved, slot);
-    let marks_stood = marks::change::<D>(&mut board.notes, slot);
-    if !(digit.stood & marks_stood) {
+    let digit_stood = digits::put::<D>(board, slot);
+    let marks_stood = marks::change::<D>(board, slot);
+    if !(digit_stood & marks_stood) {
         *board = before; // without the marks changed
         return Err(Refusal::from(Unsound::Slot { index: n }));
     }
@@ -67,7 +66,6 @@ fn go<D: Direction>(board: &mut Board, before: Board, journal: &[u8]) -> Result<
         made: before.made,
         standing: before.standing,
     });
-    board.solved = digit.solved;
     board.made = counts.made;
     board.standing = counts.standing;
     Ok(())
@@ -111,12 +109,12 @@ pub fn take_back(board: &mut Board, journal: &[u8])
     let _ = go::<Back>(board, before, journal);
 }
 
-// A recorded move performed again on parts that are lent, in place and however
-// they stand; the status afterwards is answered. Readings go so from slot to slot.
-pub fn again_in(digits: &mut [u8; 81], notes: &mut [u16; 81], solved: u8, slot: Slot) -> u8
-    ensures { (given : List ℕ) → parts given digits.new notes.new result ≡ perform_again (parts given digits.old notes.old solved) (move_of slot) slot.struck }
+// A recorded move performed again on a board in place, however it stands; the
+// counts stay. Readings go so from slot to slot.
+#[tactic(auto, unfolding(board::specs::Board::state_of, board::specs::Board::counts_of, board::specs::Board::board_of, board::specs::Board::moved))]
+pub fn perform_again(board: &mut Board, slot: Slot)
+    ensures { board.new ≡ moved board.old (perform_again (state_of board.old) (move_of slot) slot.struck) (counts_of board.old) }
 {
-    let digit = digits::put::<Again>(digits, solved, slot);
-    marks::change::<Again>(notes, slot);
-    digit.solved
+    digits::put::<Again>(board, slot);
+    marks::change::<Again>(board, slot);
 }

@@ -1,15 +1,16 @@
 // The marks of a recorded move, in place. A slot's mask speaks of the peers of its cell. Each change answers
 // whether the marks stood as they must before it: one loop over twenty peers does both, and whoever is told
 // no puts the notes back.
-ghost use Rattle.std.specs.Prelude.{◌≡◌, ℕ, not, List};
+ghost use Rattle.std.specs.Prelude.{◌≡◌, not};
 ghost use Rattle.sudoku.specs.Grid.{at, peers_of};
 ghost use Rattle.note.specs.Note.{contains as contains_of};
 ghost use Rattle.journal.specs.State.{write_at, strike_at};
 ghost use Rattle.journal.specs.Slots.{move_of};
-ghost use Rattle.play.specs.Code.Parts.{parts};
+ghost use Rattle.board.specs.Board.{state_of, counts_of, moved};
 ghost use Rattle.undo.specs.Code.Ways.{marks_gone, marks_stood};
 
 use crate::direction::Direction;
+use board::Board;
 use journal::notes::{note_at, strike_in, write_in};
 use journal::slots::move_of;
 use journal::{Move, Slot};
@@ -47,18 +48,17 @@ fn displaced<D: Direction>(notes: &mut [u16; 81], cell: usize, digit: u8, mask: 
 }
 
 // Exactly the marks that a recorded move changed.
-#[tactic(auto, unfolding(crate::specs::Code::Ways::marks_gone, crate::specs::Code::Ways::marks_stood, journal::specs::State::with_notes))]
-pub fn change<D: Direction>(notes: &mut [u16; 81], slot: Slot) -> bool
-    ensures { (result ≡ marks_stood D.way notes.old (move_of slot) slot.struck) × ((given digits : List ℕ) (solved : ℕ) → notes.new ≡ (marks_gone D.way (parts given digits notes.old solved) (move_of slot) slot.struck).notes) }
+#[tactic(auto, unfolding(board::specs::Board::state_of, board::specs::Board::counts_of, board::specs::Board::board_of, board::specs::Board::moved, crate::specs::Code::Ways::marks_gone, crate::specs::Code::Ways::marks_stood, journal::specs::State::with_notes))]
+pub fn change<D: Direction>(board: &mut Board, slot: Slot) -> bool
+    ensures stood { result ≡ marks_stood D.way board.old.notes (move_of slot) slot.struck }
+    ensures board { board.new ≡ moved board.old (marks_gone D.way (state_of board.old) (move_of slot) slot.struck) (counts_of board.old) }
 {
     let m = move_of(slot);
+    let notes = &mut board.notes;
     match m {
-        Move::Place { row, column, digit } => displaced::<D>(
-            notes,
-            cell_of(row, column),
-            digit,
-            slot.struck,
-        ),
+        Move::Place { row, column, digit } => {
+            displaced::<D>(notes, cell_of(row, column), digit, slot.struck)
+        }
         Move::Erase { .. } => true,
         Move::WriteMark { row, column, digit } => D::written(notes, cell_of(row, column), digit),
         Move::StrikeMark { row, column, digit } => D::struck(notes, cell_of(row, column), digit),

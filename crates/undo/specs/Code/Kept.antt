@@ -23,7 +23,6 @@ use Rattle.journal.specs.Code.InTurn.{in_turn, lack_in_turn, none_missing_in_tur
 use Rattle.journal.specs.Slots.{move_of, digit_change, sound_place, is_sound, is_free}
 use Rattle.journal.proofs.SlotLaws.{sound_place_lem}
 use Rattle.journal.proofs.InTurn.{lack_peers, have_peers}
-use Rattle.play.specs.Code.Parts.{parts}
 use Rattle.undo.specs.Code.Ways.{Way, back, again, digit_gone, digit_stood, marks_gone, marks_stood, Laws}
 
 -- ---- a mask of 0
@@ -71,9 +70,9 @@ move_by row column digit p e w = pick p (Place row column digit) (pick e (Erase 
 abbrev change_by : ℕ → ℕ → Bool → Bool → Option DigitChange
 change_by before digit p e = pick p (Some (record { before = before; after = digit })) (pick e (Some (record { before = before; after = 0 })) None)
 
--- the parts of a move put together
+-- the parts of a move, one after the other
 abbrev together : Way → State → ℕ → Option DigitChange → Move → ℕ → State
-together w s cell change m mask = parts s.given (digit_gone w s cell change).digits (marks_gone w s m mask).notes (digit_gone w s cell change).solved
+together w s cell change m mask = marks_gone w (digit_gone w s cell change) m mask
 
 abbrev both_stood : Way → State → ℕ → Option DigitChange → Move → ℕ → Bool
 both_stood w s cell change m mask = both (digit_stood w s.digits cell change) (marks_stood w s.notes m mask)

@@ -23,7 +23,6 @@ use Rattle.board.specs.declared.Board.{Board}
 use Rattle.board.specs.declared.Answer.{Answer}
 use Rattle.board.specs.Board.{state_of, counts_of, moved, lent_tests}
 use Rattle.board.specs.Open.{answer}
-use Rattle.play.specs.Code.Parts.{parts}
 use Rattle.play.specs.Play.{slot_refusal}
 
 pub record Way : Type 0 where
@@ -131,13 +130,9 @@ pub record Laws (w : Way) : Type 0 where
   -- a mask of 0 speaks of no peer
   pub no_mask : (notes : List ℕ) (digit : ℕ) (cells : List ℕ) → w.displaced notes digit 0 cells ≡ notes
   pub no_mask_stood : (notes : List ℕ) (digit : ℕ) (cells : List ℕ) → w.displaced_stood notes digit 0 cells ≡ true
-  -- the two parts are the whole, and where the slot is sound they ask the whole
+  -- the two parts, one after the other, are the whole, and where the slot is sound they ask the whole
   pub whole : (s : State) (slot : Slot)
-      → parts s.given
-      (digit_gone w s (cell_of slot.row slot.column) (digit_change slot)).digits
-      (marks_gone w s (move_of slot) slot.struck).notes
-      (digit_gone w s (cell_of slot.row slot.column) (digit_change slot)).solved
-      ≡ w.whole s slot
+      → marks_gone w (digit_gone w s (cell_of slot.row slot.column) (digit_change slot)) (move_of slot) slot.struck ≡ w.whole s slot
   pub stood : (s : State) (slot : Slot) → is_sound s.given slot ≡ true
       → both (digit_stood w s.digits (cell_of slot.row slot.column) (digit_change slot)) (marks_stood w s.notes (move_of slot) slot.struck)
       ≡ w.stood s slot

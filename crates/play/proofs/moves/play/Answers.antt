@@ -23,14 +23,12 @@ returns-in-Err c =
     (rw c.into-answer.ensures (ap (λ (x : Played). x.answer) p), ap (λ (x : Played). x.journal) p)
 
 pub returns : goal.returns
-unfolding state_of counts_of moved board_of record_move bytes_of
+unfolding record_move bytes_of
 returns c =
     let a = c.args in
     let n = c.in_default.ensures in
     let p = play_made a.board a.journal.now a.m _ n refl in
-    let room = play_room a.board a.journal.now a.m _ n refl in
-    let digits = c.perform_digit-solved.ensures a.board.given a.board.notes in (
-      rw (c.accepted.ensures, digits.0, digits.1, c.perform_notes.ensures a.board.given a.board.digits a.board.solved, c.after_record-counts.ensures)
-          (ap (λ (s : State). answer accepted (moved a.board s (recorded (counts_of a.board)))) (perform_parts (state_of a.board) a.m) ∙ ap (λ (x : Played). x.answer) p),
-      (rw (c.slot_of-slot.ensures a.board.given a.board.solved) at c.write_slot.ensures) ∙ laid_over _ _ _ room ∙ ap (λ (x : Played). x.journal) p,
+    let room = play_room a.board a.journal.now a.m _ n refl in (
+      rw (c.accepted.ensures, c.make.ensures.0) (ap (λ (x : Played). x.answer) p),
+      c.make.ensures.1 ∙ laid_over _ _ _ room ∙ ap (λ (x : Played). x.journal) p,
     )
