@@ -1,4 +1,3 @@
 pub mod Play
 pub mod Check
 pub mod Unsound
-pub mod Code

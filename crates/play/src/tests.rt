@@ -110,7 +110,12 @@ pub fn move_test(board: &Board, m: Move) -> Result<(), PlayError>
 
 // A call that makes a move: 1 and 2, those of the move, 15. Number 2 reads the whole board, and so the one that came;
 // the move is asked of its copy in the answer. A board by value that is lent would be copied once more.
-pub fn call_test(board: Board, copy: &Board, journal: &[u8], m: Move) -> Result<(), PlayError>
+pub(crate) fn call_test(
+    board: Board,
+    copy: &Board,
+    journal: &[u8],
+    m: Move,
+) -> Result<(), PlayError>
     requires { copy.now ≡ board }
     ensures { number_told result ≡ first (call_tests board journal.now m) }
 {

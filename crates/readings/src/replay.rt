@@ -9,7 +9,7 @@ ghost use Rattle.readings.specs.Reading.{opening_board, board_after};
 use board::Board;
 use journal::slots::{is_given, slot_at};
 use puzzle::digit_at;
-use undo::again_in;
+use undo::perform_again;
 
 // The digit of a cell that is a given; 0 for any other.
 #[tactic(auto, unfolding(sudoku::specs::Tests::pick))]
@@ -47,14 +47,8 @@ pub fn after(board: Board, journal: &[u8], k: usize) -> Board
     ensures { result ≡ board_after board journal.now k }
 {
     let mut stood = opening(board);
-    let mut digits = stood.digits;
-    let mut notes = stood.notes;
-    let mut solved = stood.solved;
     for i in 0..k {
-        solved = again_in(&mut digits, &mut notes, solved, slot_at(journal, i + 1));
+        perform_again(&mut stood, slot_at(journal, i + 1));
     }
-    stood.digits = digits;
-    stood.notes = notes;
-    stood.solved = solved;
     stood
 }

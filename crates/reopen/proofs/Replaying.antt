@@ -21,8 +21,7 @@ use Rattle.journal.specs.Code.Laid.{laid}
 use Rattle.journal.specs.State.{perform}
 use Rattle.journal.specs.Slots.{slot_for, bytes_of}
 use Rattle.journal.proofs.Stores.{laid_over}
-use Rattle.board.specs.Board.{whole, state_of, counts_of, board_of, moved}
-use Rattle.play.specs.Code.Parts.{parts}
+use Rattle.board.specs.Board.{state_of, counts_of, moved}
 use Rattle.play.specs.Play.{Played, played, move_tests, record_move}
 use Rattle.record.specs.declared.Item.TheVariants.{Played as PlayedItem}
 use Rattle.record.specs.Items.{encode}
@@ -68,11 +67,10 @@ module _ (b : Board) (journal : List ℕ) (k : ℕ) (m : Move) where
         let no : 0 ≡ 29 = ap (λ (x : Refusal). x.number) (goes ∙ pick_false _ _ _ t ∙ pick_false _ _ _ u) in
         absurd (omega (arith, no))))
 
-  -- the move made and recorded: the parts of the board afterwards, its counts, and the journal
-  pub next_made : (digits notes : List ℕ) (solved : ℕ) (after : Counts) → parts b.given digits notes solved ≡ perform (state_of b) m → after ≡ recorded (counts_of b)
-      → whole digits b.given notes b.solution solved after.made after.standing b.checks ≡ (record_move b journal m).answer.board
-  unfolding record_move moved board_of
-  next_made digits notes solved after made counted = λ i. moved b (made i) (counted i)
+  -- the move made and recorded: the board afterwards, and the journal
+  pub next_made : (after : Board) → after ≡ moved b (perform (state_of b) m) (recorded (counts_of b)) → after ≡ (record_move b journal m).answer.board
+  unfolding record_move
+  next_made after e = e
 
   pub next_wrote : (out : List ℕ) → out ≡ laid journal (slot_bytes * b.standing) (bytes_of (slot_for (state_of b) m)) → slot_bytes * b.standing + slot_bytes ≤ length journal
       → out ≡ (record_move b journal m).journal

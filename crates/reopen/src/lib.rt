@@ -9,10 +9,9 @@ ghost use Rattle.puzzle.specs.Refusals.{told};
 ghost use Rattle.journal.specs.Limits.{max_moves, max_checks, check_item_bytes, journal_bytes, check_memory};
 ghost use Rattle.journal.specs.Bytes.{over};
 ghost use Rattle.journal.specs.StoredChecks.{judged, stored_all};
-ghost use Rattle.board.specs.Board.{whole};
+ghost use Rattle.board.specs.Board.{state_of};
 ghost use Rattle.board.specs.Errors.{number_told};
 ghost use Rattle.board.specs.Open.{no_moves, no_checks, Gives};
-ghost use Rattle.play.specs.Code.Parts.{parts};
 ghost use Rattle.record.specs.Errors.{reopen_refusal};
 ghost use Rattle.record.specs.Reopen.{replay as replay_of, take_back_all, to_play, check_refusal, checks_refusal, reopen_of};
 ghost use Rattle.reopen.specs.Code.Reopening.{moves_at, asks_at, next_refusal, asked_number, settled_by, reopened_of, Reopens};
@@ -22,9 +21,8 @@ use board::open::{clear, lent_lengths, wrong_length, zero_board};
 use board::{Answer, Board};
 use journal::checks::{is_right, store_check};
 use journal::slots::is_given;
-use journal::steps::after_record;
-use journal::{Asked, Counts, Move};
-use play::moves::make_in;
+use journal::{Asked, Move};
+use play::moves::make;
 use play::tests::move_test;
 use puzzle::Layout;
 use puzzle::answer::accepted;
@@ -38,38 +36,15 @@ use record::{CHECK_ITEM, GIVEN_ITEM, Scanned};
 use sudoku::{CELLS, cell_of, in_range, on_grid};
 use undo::take_back;
 
-// Why move `index` is refused, asked of a board's parts: 28 before 29.
-#[tactic(auto, unfolding(crate::specs::Code::Reopening::next_refusal, sudoku::specs::Tests::pick))]
-fn next_test<'a>(
-    digits: &'a [u8; 81],
-    given: &'a [u8; 81],
-    notes: &'a [u16; 81],
-    solved: u8,
-    index: usize,
-    m: Move,
-) -> Result<(), ReopenError>
-    ensures { told reopen_refusal result ≡ next_refusal (parts given.now digits.now notes.now solved) index m }
+// Why move `index` is refused: 28 before 29.
+#[tactic(auto, unfolding(crate::specs::Code::Reopening::next_refusal, board::specs::Board::state_of, sudoku::specs::Tests::pick))]
+fn next_test(board: &Board, index: usize, m: Move) -> Result<(), ReopenError>
+    ensures { told reopen_refusal result ≡ next_refusal (state_of board.now) index m }
 {
-    if solved != 0 {
+    if board.solved != 0 {
         return Err(ReopenError::MoveAfterSolved { index });
     }
-    move_test(digits, given, notes, solved, m).map_err(|why| ReopenError::MoveRefused {
-        index,
-        why,
-    })
-}
-
-// The board with other digits, notes, status and counts.
-fn with_parts(board: Board, digits: [u8; 81], notes: [u16; 81], solved: u8, counts: Counts) -> Board
-    ensures { result ≡ whole digits board.given notes board.solution solved counts.made counts.standing board.checks }
-{
-    let mut next = board;
-    next.digits = digits;
-    next.notes = notes;
-    next.solved = solved;
-    next.made = counts.made;
-    next.standing = counts.standing;
-    next
+    move_test(board, m).map_err(|why| ReopenError::MoveRefused { index, why })
 }
 
 // All moves performed in order, the first of which stands at `start`.
@@ -85,22 +60,15 @@ fn replay(
     ensures refusal { told reopen_refusal result ≡ (replay_of board journal.old 1 (moves_at bytes.now start count)).answer.refusal }
     ensures played { IfOk result (λ b. (b ≡ (replay_of board journal.old 1 (moves_at bytes.now start count)).answer.board) × (journal.new ≡ (replay_of board journal.old 1 (moves_at bytes.now start count)).journal)) }
 {
-    let mut digits = board.digits;
-    let mut notes = board.notes;
-    let mut solved = board.solved;
-    let mut counts = Counts {
-        made: board.made,
-        standing: board.standing,
-    };
+    let mut played = board;
     let mut at = start;
     for k in 1..=count {
         let m = move_at(bytes, at);
-        next_test(&digits, &board.given, &notes, solved, k, m)?;
-        solved = make_in(&mut digits, &mut notes, solved, counts.standing, journal, m);
-        counts = after_record(counts);
+        next_test(&played, k, m)?;
+        make(&mut played, journal, m);
         at += move_length(m);
     }
-    Ok(with_parts(board, digits, notes, solved, counts))
+    Ok(played)
 }
 
 // Taking back n is one undo and then taking back n less one. Board and journal are lent, so that a step keeps

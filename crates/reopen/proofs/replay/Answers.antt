@@ -1,20 +1,17 @@
 -- `reopen::replay` meets its contract: what is left to perform from the board and the journal as they are decides.
 -- Assumes nothing.
 use Prim.Native.Nat.{ℕ, ◌+◌, ◌-◌}
-use mathlib.Core.Path.{◌≡◌, sym, ap, ◌∙◌}
+use mathlib.Core.Path.{sym, ap, ◌∙◌}
 use native.Mathlib.Omega.{arith}
 use Rattle.std.proofs.lemmas.Result.{err_from_is_err_and}
-use Rattle.puzzle.specs.Refusals.{accepted}
-use Rattle.journal.specs.declared.Counts.{Counts}
-use Rattle.board.specs.Board.{state_of, counts_of}
-use Rattle.play.specs.Play.{Played, played}
+use Rattle.board.specs.declared.Board.{Board}
+use Rattle.board.specs.Board.{state_of, counts_of, board_of, moved}
+use Rattle.play.specs.Play.{Played}
 use Rattle.record.specs.Reopen.{replay}
 use Rattle.record.proofs.Errors.{reopen_numbered}
 use Rattle.reopen.specs.Code.Reopening.{moves_at}
 use Rattle.reopen.proofs.Replaying.{recorded_le, next_made, next_wrote, turn_stops, turn_goes_on, replay_ends}
-use Rattle.reopen.proofs.replay.Invariants.{now_at}
 use Rattle.reopen.proofs.replay.Goals as goal
-use Rattle.reopen.proofs.replay.Goals.{else-loop-k-test, then-loop-k-test+in_ok-next_test+else-k-count}
 
 pub loop-k-init : goal.loop-k-init
 loop-k-init c =
@@ -30,7 +27,7 @@ unfolding state_of
 returns-in_err-next_test-clause-refusal c =
     let a = c.args in
     let turn = c.loop-k in
-    let b = now_at a.board turn.digits turn.notes turn.solved turn.counts in
+    let b = turn.played in
     let p = err_from_is_err_and c.from_residual.result c.from_residual.ensures.1 in
     let e = c.in_err-next_test.field-0.0 in
     rw (p.1, p.2)
@@ -41,16 +38,15 @@ pub overflow_add-at : goal.overflow_add-at
 overflow_add-at c = omega (arith, c.move_length-at.ensures.1, c.loop-k.invariant.2, c.requires.0, c.requires.1, c.well_formed.0.1)
 
 pub loop-k-preserved : goal.loop-k-preserved
-unfolding state_of counts_of
+unfolding state_of counts_of moved board_of
 loop-k-preserved c =
     let a = c.args in
     let turn = c.loop-k in
-    let b = now_at a.board turn.digits turn.notes turn.solved turn.counts in
-    let deed = c.make_in-solved.ensures a.board.given in
-    let made = next_made b turn.journal turn.k c.move_at-m.result _ _ _ _ deed.0 c.after_record-counts.ensures in
-    let wrote = next_wrote b turn.journal turn.k c.move_at-m.result _ deed.1 (omega (arith, turn.invariant.0, turn.invariant.1, c.requires.1)) in (
-      omega (arith, c.make_in-solved.auto.journal, turn.invariant.0),
-      omega (arith, recorded_le turn.counts, ap (λ (x : Counts). x.standing) c.after_record-counts.ensures, turn.invariant.1),
+    let b = turn.played in
+    let made = next_made b turn.journal turn.k c.move_at-m.result _ c.make.ensures.0 in
+    let wrote = next_wrote b turn.journal turn.k c.move_at-m.result _ c.make.ensures.1 (omega (arith, turn.invariant.0, turn.invariant.1, c.requires.1)) in (
+      omega (arith, c.make.auto.journal, turn.invariant.0),
+      omega (arith, recorded_le (counts_of b), ap (λ (x : Board). x.standing) c.make.ensures.0, turn.invariant.1),
       omega (arith, c.move_length-at.ensures.1, turn.invariant.2),
       sym (turn_goes_on a.bytes.now turn.at turn.k a.count b turn.journal c.move_at-m.result c.move_at-m.ensures (omega arith) c.in_ok-next_test.ensures _ _ made wrote c.move_length-at.result c.move_length-at.ensures.0) ∙ turn.invariant.3,
     )
@@ -58,28 +54,29 @@ loop-k-preserved c =
 pub shape_of-journal : goal.shape_of-journal
 shape_of-journal c = omega (arith, c.loop-k.invariant.0, c.requires.3)
 
--- no move is left, or the last one was made
+-- no move is left
 pub returns : goal.returns
-unfolding state_of counts_of
 returns c =
     let a = c.args in
     let turn = c.loop-k in
-    let last = c.loop-k-test in
-    let b = now_at a.board turn.digits turn.notes turn.solved turn.counts in
-    let ended : played accepted (now_at a.board last.digits last.notes last.solved last.counts) last.journal ≡ replay a.board a.journal.now 1 (moves_at a.bytes.now a.start a.count) =
-    elim c.loop-k-test.branch [
-      | else-loop-k-test w ↦
-          rw (w.journal-is, w.digits-is, w.notes-is, w.solved-is, w.counts-is)
-          (sym (replay_ends a.bytes.now turn.at turn.k a.count b turn.journal (omega arith)) ∙ turn.invariant.3)
-      | then-loop-k-test+in_ok-next_test+else-k-count w ↦
-          let deed = w.make_in-solved.ensures a.board.given in
-          let made = next_made b turn.journal turn.k w.move_at-m.result _ _ _ _ deed.0 w.after_record-counts.ensures in
-          let wrote = next_wrote b turn.journal turn.k w.move_at-m.result _ deed.1 (omega (arith, turn.invariant.0, turn.invariant.1, c.requires.1)) in
-          let on = turn_goes_on a.bytes.now turn.at turn.k a.count b turn.journal w.move_at-m.result w.move_at-m.ensures (omega arith) w.in_ok-next_test.ensures _ _ made wrote w.move_length-at.result w.move_length-at.ensures.0 in
-          rw (w.journal-is, w.digits-is, w.notes-is, w.solved-is, w.counts-is)
-          (sym (replay_ends a.bytes.now (turn.at + w.move_length-at.result) (turn.k + 1) a.count _ _ (omega arith)) ∙ sym on ∙ turn.invariant.3)
-    ] in
+    let ended = sym (replay_ends a.bytes.now turn.at turn.k a.count turn.played turn.journal (omega arith)) ∙ turn.invariant.3 in
     record {
       refusal = ap (λ (x : Played). x.answer.refusal) ended;
-      played = (c.with_parts.ensures ∙ ap (λ (x : Played). x.answer.board) ended, ap (λ (x : Played). x.journal) ended);
+      played = (ap (λ (x : Played). x.answer.board) ended, ap (λ (x : Played). x.journal) ended);
+    }
+
+-- the last one was made
+pub returns-in_ok-next_test : goal.returns-in_ok-next_test
+unfolding state_of counts_of
+returns-in_ok-next_test c =
+    let a = c.args in
+    let turn = c.loop-k in
+    let b = turn.played in
+    let made = next_made b turn.journal turn.k c.move_at-m.result _ c.make.ensures.0 in
+    let wrote = next_wrote b turn.journal turn.k c.move_at-m.result _ c.make.ensures.1 (omega (arith, turn.invariant.0, turn.invariant.1, c.requires.1)) in
+    let on = turn_goes_on a.bytes.now turn.at turn.k a.count b turn.journal c.move_at-m.result c.move_at-m.ensures (omega arith) c.in_ok-next_test.ensures _ _ made wrote c.move_length-at.result c.move_length-at.ensures.0 in
+    let ended = sym (replay_ends a.bytes.now (turn.at + c.move_length-at.result) (turn.k + 1) a.count _ _ (omega arith)) ∙ sym on ∙ turn.invariant.3 in
+    record {
+      refusal = ap (λ (x : Played). x.answer.refusal) ended;
+      played = (ap (λ (x : Played). x.answer.board) ended, ap (λ (x : Played). x.journal) ended);
     }

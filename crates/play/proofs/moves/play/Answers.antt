@@ -4,15 +4,9 @@
 use mathlib.Core.Path.{refl, ap, ◌∙◌}
 use native.Mathlib.Omega.{arith}
 use Rattle.journal.specs.Slots.{bytes_of}
-use Rattle.journal.specs.State.{State}
-use Rattle.journal.specs.Counts.{recorded}
 use Rattle.journal.proofs.Stores.{laid_over}
-use Rattle.puzzle.specs.Refusals.{accepted}
-use Rattle.board.specs.Board.{state_of, counts_of, board_of, moved}
-use Rattle.board.specs.Open.{answer}
 use Rattle.board.proofs.Told.{has_number}
 use Rattle.play.specs.Play.{Played, record_move}
-use Rattle.play.proofs.Parts.{perform_parts}
 use Rattle.play.proofs.Accepted.{play_refused, play_made, play_room}
 use Rattle.play.proofs.moves.play.Goals as goal
 

@@ -3,11 +3,12 @@
 use Prim.Native.Nat.{◌+◌, ◌-◌}
 use mathlib.Core.Path.{◌≡◌}
 use Rattle.sudoku.specs.Tests.{run}
-use Rattle.board.specs.Board.{state_of}
-use Rattle.play.specs.Code.Parts.{parts}
+use Rattle.board.specs.Board.{state_of, counts_of, moved}
 use Rattle.readings.specs.Reading.{apply_slot}
 use Rattle.readings.proofs.replay.after.Given as goal
 
+-- the givens, the solution, the counts and the checks stay, and so the board is the opening one with another state
 abbrev pub invariant-loop-i : goal.invariant-loop-i
 invariant-loop-i l =
-    run (apply_slot l.journal) (state_of l.stood) l.k 1 ≡ run (apply_slot l.journal) (parts l.stood.given l.digits l.notes l.solved) (l.k + 1 - (l.i + 1)) (l.i + 1)
+    (l.stood ≡ moved l.initial.stood (state_of l.stood) (counts_of l.initial.stood))
+    × (run (apply_slot l.journal) (state_of l.initial.stood) l.k 1 ≡ run (apply_slot l.journal) (state_of l.stood) (l.k + 1 - (l.i + 1)) (l.i + 1))
