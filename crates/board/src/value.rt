@@ -51,8 +51,8 @@ fn note_values(notes: &[u16; 81]) -> bool
 
 // Whether number 2 does not speak of the board value.
 #[tactic(auto, unfolding(crate::specs::Board::is_board, sudoku::specs::Tests::both))]
-pub fn is_board(board: Board) -> bool
-    ensures { result ≡ is_board board }
+pub fn is_board(board: &Board) -> bool
+    ensures { result ≡ is_board board.now }
 {
     board.made <= MAX_MOVES
         && board.standing <= board.made
@@ -64,8 +64,8 @@ pub fn is_board(board: Board) -> bool
 
 // 1 and 2, which every call with a board and lent memory asks first; `fits` says that the memory has its length.
 #[tactic(auto, unfolding(crate::specs::Board::lent_tests, sudoku::specs::Tests::first, sudoku::specs::Tests::pick))]
-pub fn lent(board: Board, fits: bool) -> Result<(), PlayError>
-    ensures { number_told result ≡ first (lent_tests fits board []) }
+pub fn lent(board: &Board, fits: bool) -> Result<(), PlayError>
+    ensures { number_told result ≡ first (lent_tests fits board.now []) }
 {
     if !fits {
         return Err(PlayError::WrongLength);
