@@ -48,7 +48,6 @@ fn next_test(board: &Board, index: usize, m: Move) -> Result<(), ReopenError>
 }
 
 // All moves performed in order, the first of which stands at `start`.
-// On parts, as `make_in` is lent them: a board lent for both arrays is copied at each move (docs/DECISIONS.md, 29).
 fn replay(
     bytes: &[u8],
     start: usize,
