@@ -60,7 +60,8 @@ fn opened<R: Files>(rt: &R, how: &OpenOptions, path: &[u8]) -> io::Result<R::Fil
     how.open(rt, name_of(path)?)
 }
 
-// Reads to the end of the file, or until the buffer is full; answers how many bytes there are.
+// Reads to the end of the file, or until the buffer is full; answers how many bytes there are. A turn brings as many as
+// the system has, so this is no `for`.
 fn read_all<F: Read>(file: &mut F, buffer: &mut [u8; FILE_BYTES]) -> io::Result<usize>
     ensures { IfOk result (λ n. n ≤ 8192) }
 {
