@@ -182,29 +182,3 @@ pub fn change_masked_in<C: MarkChange>(
     }
     ok
 }
-
-// The two changes under their old names, until their callers have moved.
-
-pub fn write_in(notes: &mut [u16; 81], cell: usize, digit: u8)
-    ensures { notes.new ≡ write_at notes.old cell digit }
-{
-    change_in::<Write>(notes, cell, digit);
-}
-
-pub fn strike_in(notes: &mut [u16; 81], cell: usize, digit: u8)
-    ensures { notes.new ≡ strike_at notes.old cell digit }
-{
-    change_in::<Strike>(notes, cell, digit);
-}
-
-pub fn write_masked_in(notes: &mut [u16; 81], digit: u8, mask: u32, cells: &[u8; 20]) -> bool
-    ensures { (result ≡ lack_in_turn notes.old digit mask cells.now) × (notes.new ≡ write_masked notes.old digit mask cells.now) }
-{
-    change_masked_in::<Write>(notes, digit, mask, cells)
-}
-
-pub fn strike_masked_in(notes: &mut [u16; 81], digit: u8, mask: u32, cells: &[u8; 20]) -> bool
-    ensures { (result ≡ none_missing_in_turn notes.old digit mask cells.now) × (notes.new ≡ strike_masked notes.old digit mask cells.now) }
-{
-    change_masked_in::<Strike>(notes, digit, mask, cells)
-}

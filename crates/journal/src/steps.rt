@@ -67,29 +67,3 @@ impl Counts {
         *self = self.retaken();
     }
 }
-
-// The counts after a step, until its callers have moved to `let mut counts = ..; counts.record();`.
-
-pub fn after_record(c: Counts) -> Counts
-    ensures { result ≡ recorded_of c }
-{
-    let mut counts = c;
-    counts.record();
-    counts
-}
-
-pub fn after_take_back(c: Counts) -> Counts
-    ensures { result ≡ taken_back_of c }
-{
-    let mut counts = c;
-    counts.take_back();
-    counts
-}
-
-pub fn after_retake(c: Counts) -> Counts
-    ensures { result ≡ retaken_of c }
-{
-    let mut counts = c;
-    counts.retake();
-    counts
-}

@@ -11,7 +11,7 @@ ghost use Rattle.play.specs.Play.{play_of};
 
 use crate::tests::call_test;
 use board::{Answer, Board};
-use journal::notes::{holders, strike_all_in, strike_in, write_in};
+use journal::notes::{Strike, Write, change_in, holders, strike_all_in};
 use journal::slots::write_slot;
 use journal::{Counts, ERASE, Move, PLACE, STRIKE_MARK, Slot, WRITE_MARK};
 use puzzle::answer::accepted;
@@ -55,10 +55,10 @@ pub fn perform(board: &mut Board, m: Move)
         }
         Move::Erase { row, column } => put(board, cell_of(row, column), 0),
         Move::WriteMark { row, column, digit } => {
-            write_in(&mut board.notes, cell_of(row, column), digit);
+            change_in::<Write>(&mut board.notes, cell_of(row, column), digit);
         }
         Move::StrikeMark { row, column, digit } => {
-            strike_in(&mut board.notes, cell_of(row, column), digit);
+            change_in::<Strike>(&mut board.notes, cell_of(row, column), digit);
         }
     }
 }
@@ -106,13 +106,13 @@ pub fn make(board: &mut Board, journal: &mut [u8], m: Move)
 {
     write_slot(journal, board.standing, slot_of(board, m));
     perform(board, m);
-    let counts = Counts {
+    let mut counts = Counts {
         made: board.made,
         standing: board.standing,
     };
-    let after = counts.recorded();
-    board.made = after.made;
-    board.standing = after.standing;
+    counts.record();
+    board.made = counts.made;
+    board.standing = counts.standing;
 }
 
 // A call that makes a move. Refused by the numbers of the move, and by 1 2 15.

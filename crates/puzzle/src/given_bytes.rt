@@ -94,15 +94,3 @@ impl<'a> GivenBytes<'a> {
         self.laid(|_given| 1)
     }
 }
-
-// The same as a function of the three parts, until its callers have moved.
-pub fn is_ascending(bytes: &[u8], layout: Layout, count: usize) -> bool
-    ensures { result ≡ ascending (givens_in layout bytes.now count) }
-{
-    GivenBytes {
-        bytes,
-        layout,
-        count,
-    }
-    .is_ascending()
-}

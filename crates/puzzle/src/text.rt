@@ -15,10 +15,3 @@ pub fn value_of(byte: u8) -> Option<u8>
         _ => None,
     }
 }
-
-// The same, and 10 where the character is of another sort, until its callers have moved.
-pub fn cell_value(byte: u8) -> u8
-    ensures { result ≡ cell_value byte }
-{
-    value_of(byte).unwrap_or(10)
-}

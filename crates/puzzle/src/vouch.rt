@@ -12,7 +12,7 @@ ghost use Rattle.puzzle.specs.Vouch.{solution_digit, first_holding, solution_con
 
 use crate::error::WellPosedError;
 use crate::given_bytes::GivenBytes;
-use crate::{Given, Layout, Refusal, answer, byte_at, index_of, settled};
+use crate::{Given, byte_at, index_of, settled};
 use sudoku::{CELLS, LINE, SIDE, in_range, on_grid, peers};
 
 // The nine digits of the solution's row r, counted from 0.
@@ -188,16 +188,4 @@ impl<'a> GivenBytes<'a> {
         }
         self.vouch(rows)
     }
-}
-
-// `vouch` as a function of the three parts, which answers the refusal, until its callers have moved.
-pub fn vouch(bytes: &[u8], layout: Layout, count: usize, rows: [[u8; 9]; 9]) -> Refusal
-    ensures { result ≡ vouch_of (givens_in layout bytes.now count) (flat_of rows) }
-{
-    answer::told(GivenBytes {
-        bytes,
-        layout,
-        count,
-    }
-    .vouch(rows))
 }

@@ -8,7 +8,7 @@ ghost use Rattle.undo.specs.Code.Kept.{back_laws, again_laws};
 
 use crate::marks::{strike_standing, write_lacking};
 use board::error::PlayError;
-use journal::notes::{strike_masked_in, write_masked_in};
+use journal::notes::{Strike, Write, change_masked_in};
 use journal::{Counts, DigitChange};
 
 // Each change of marks answers whether they stood as they must before it.
@@ -36,9 +36,9 @@ pub trait Direction {
     fn displaced(notes: &mut [u16; 81], digit: u8, mask: u32, cells: &[u8; 20]) -> bool
         ensures { (result ≡ way.displaced_stood notes.old digit mask cells.now) × (notes.new ≡ way.displaced notes.old digit mask cells.now) };
 
-    // The counts afterwards.
-    fn counted(counts: Counts) -> Counts
-        ensures { result ≡ way.counts counts };
+    // The step of the counts.
+    fn step(counts: &mut Counts)
+        ensures { counts.new ≡ way.counts counts.old };
 
     ghost laws: { Laws way };
 }
@@ -74,11 +74,11 @@ impl Direction for Back {
     }
 
     fn displaced(notes: &mut [u16; 81], digit: u8, mask: u32, cells: &[u8; 20]) -> bool {
-        write_masked_in(notes, digit, mask, cells)
+        change_masked_in::<Write>(notes, digit, mask, cells)
     }
 
-    fn counted(counts: Counts) -> Counts {
-        counts.taken_back()
+    fn step(counts: &mut Counts) {
+        counts.take_back();
     }
 }
 
@@ -110,10 +110,10 @@ impl Direction for Again {
     }
 
     fn displaced(notes: &mut [u16; 81], digit: u8, mask: u32, cells: &[u8; 20]) -> bool {
-        strike_masked_in(notes, digit, mask, cells)
+        change_masked_in::<Strike>(notes, digit, mask, cells)
     }
 
-    fn counted(counts: Counts) -> Counts {
-        counts.retaken()
+    fn step(counts: &mut Counts) {
+        counts.retake();
     }
 }

@@ -62,10 +62,11 @@ fn go<D: Direction>(board: &mut Board, before: Board, journal: &[u8]) -> Result<
         *board = before; // without the marks changed
         return Err(Refusal::from(Unsound::Slot { index: n }));
     }
-    let counts = D::counted(Counts {
+    let mut counts = Counts {
         made: before.made,
         standing: before.standing,
-    });
+    };
+    D::step(&mut counts);
     board.made = counts.made;
     board.standing = counts.standing;
     Ok(())

@@ -11,7 +11,7 @@ ghost use Rattle.undo.specs.Code.Ways.{marks_gone, marks_stood};
 
 use crate::direction::Direction;
 use board::Board;
-use journal::notes::{note_at, strike_in, write_in};
+use journal::notes::{Strike, Write, change_in, note_at};
 use journal::slots::move_of;
 use journal::{Move, Slot};
 use note::contains;
@@ -22,7 +22,7 @@ pub(crate) fn write_lacking(notes: &mut [u16; 81], cell: usize, digit: u8) -> bo
     ensures { (result ≡ not (contains_of (at notes.old cell) digit)) × (notes.new ≡ write_at notes.old cell digit) }
 {
     let stood = contains(note_at(notes, cell), digit);
-    write_in(notes, cell, digit);
+    change_in::<Write>(notes, cell, digit);
     !stood
 }
 
@@ -31,7 +31,7 @@ pub(crate) fn strike_standing(notes: &mut [u16; 81], cell: usize, digit: u8) -> 
     ensures { (result ≡ contains_of (at notes.old cell) digit) × (notes.new ≡ strike_at notes.old cell digit) }
 {
     let stood = contains(note_at(notes, cell), digit);
-    strike_in(notes, cell, digit);
+    change_in::<Strike>(notes, cell, digit);
     stood
 }
 
