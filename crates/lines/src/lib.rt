@@ -154,7 +154,7 @@ fn written(board: &Board, output: &mut [u8]) -> Result<usize, LineError>
     ensures laid { IfOk result (λ n. (n ≡ length (line_of board.now)) × (output.new ≡ over output.old 0 (line_of board.now))) }
     ensures kept { OnErr result (output.new ≡ output.old) }
 {
-    if !is_board(board) {
+    if !is_board(*board) {
         return Err(PlayError::NotABoard.into());
     }
     if output.len() < LINE_BYTES {

@@ -16,8 +16,8 @@ use sudoku::{cell_of, on_grid};
 
 // 1 2 3 4 6 16.
 #[tactic(auto, unfolding(sudoku::specs::Tests::first, sudoku::specs::Tests::pick, board::specs::Board::lent_tests, board::specs::Board::state_of, journal::specs::State::holds_players_digit, crate::specs::Check::check_tests))]
-fn check_test(board: &Board, checks: &[u8], row: u8, column: u8) -> Result<(), PlayError>
-    ensures { number_told result ≡ first (check_tests board.now checks.now row column) }
+fn check_test(board: Board, checks: &[u8], row: u8, column: u8) -> Result<(), PlayError>
+    ensures { number_told result ≡ first (check_tests board checks.now row column) }
 {
     lent(board, checks.len() == CHECK_MEMORY)?;
     if !on_grid(row, column) {
@@ -44,7 +44,7 @@ pub fn check(board: Board, checks: &mut [u8], row: u8, column: u8) -> Checked
         right: false,
         board,
     };
-    if let Err(e) = check_test(&answer.board, checks, row, column) {
+    if let Err(e) = check_test(board, checks, row, column) {
         answer.refusal = e.into();
         return answer;
     }

@@ -123,7 +123,7 @@ pub fn play(board: Board, journal: &mut [u8], m: Move) -> Answer
         refusal: accepted(),
         board,
     };
-    if let Err(e) = call_test(&answer.board, journal, m) {
+    if let Err(e) = call_test(board, &answer.board, journal, m) {
         answer.refusal = e.into();
         return answer;
     }

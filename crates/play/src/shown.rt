@@ -26,7 +26,7 @@ pub fn latest_slot<'a>(board: Board, journal: &'a [u8]) -> Result<&'a [u8], Play
     ensures number { number_told result ≡ latest_number board journal.now }
     ensures part { IfOk result (λ part. part.now ≡ latest_part board journal.now) }
 {
-    lent(&board, journal.len() == JOURNAL_BYTES)?;
+    lent(board, journal.len() == JOURNAL_BYTES)?;
     if board.standing == 0 {
         return Err(PlayError::NothingToUndo);
     }
@@ -39,7 +39,7 @@ pub fn next_slot<'a>(board: Board, journal: &'a [u8]) -> Result<&'a [u8], PlayEr
     ensures number { number_told result ≡ next_number board journal.now }
     ensures part { IfOk result (λ part. part.now ≡ next_part board journal.now) }
 {
-    lent(&board, journal.len() == JOURNAL_BYTES)?;
+    lent(board, journal.len() == JOURNAL_BYTES)?;
     if board.made <= board.standing {
         return Err(PlayError::NothingToRedo);
     }

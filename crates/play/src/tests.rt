@@ -108,12 +108,19 @@ pub fn move_test(board: &Board, m: Move) -> Result<(), PlayError>
     }
 }
 
-// A call that makes a move: 1 and 2, those of the move, 15.
-pub(crate) fn call_test(board: &Board, journal: &[u8], m: Move) -> Result<(), PlayError>
-    ensures { number_told result ≡ first (call_tests board.now journal.now m) }
+// A call that makes a move: 1 and 2, those of the move, 15. Number 2 reads the whole board, and so the one that came;
+// the move is asked of its copy in the answer. A board by value that is lent would be copied once more.
+pub(crate) fn call_test(
+    board: Board,
+    copy: &Board,
+    journal: &[u8],
+    m: Move,
+) -> Result<(), PlayError>
+    requires { copy.now ≡ board }
+    ensures { number_told result ≡ first (call_tests board journal.now m) }
 {
     lent(board, journal.len() == JOURNAL_BYTES)?;
-    move_test(board, m)?;
+    move_test(copy, m)?;
     if board.standing == MAX_MOVES {
         return Err(PlayError::JournalFull);
     }

@@ -50,8 +50,8 @@ pub struct Left {
 
 // Number 2, which every question asks first.
 #[tactic(auto, unfolding(crate::specs::Questions::board_number, sudoku::specs::Tests::first, sudoku::specs::Tests::pick))]
-fn board_test(board: &Board) -> Result<(), PlayError>
-    ensures { number_told result ≡ board_number board.now }
+fn board_test(board: Board) -> Result<(), PlayError>
+    ensures { number_told result ≡ board_number board }
 {
     if !is_board(board) {
         return Err(PlayError::NotABoard);
@@ -60,8 +60,8 @@ fn board_test(board: &Board) -> Result<(), PlayError>
 }
 
 #[tactic(auto, unfolding(crate::specs::Questions::board_number, crate::specs::Questions::cell_number, sudoku::specs::Tests::first, sudoku::specs::Tests::pick))]
-fn cell_test(board: &Board, row: u8, column: u8) -> Result<(), PlayError>
-    ensures { number_told result ≡ cell_number board.now row column }
+fn cell_test(board: Board, row: u8, column: u8) -> Result<(), PlayError>
+    ensures { number_told result ≡ cell_number board row column }
 {
     board_test(board)?;
     if !on_grid(row, column) {
@@ -71,8 +71,8 @@ fn cell_test(board: &Board, row: u8, column: u8) -> Result<(), PlayError>
 }
 
 #[tactic(auto, unfolding(crate::specs::Questions::board_number, crate::specs::Questions::key_number, sudoku::specs::Tests::first, sudoku::specs::Tests::pick))]
-fn key_test(board: &Board, digit: u8) -> Result<(), PlayError>
-    ensures { number_told result ≡ key_number board.now digit }
+fn key_test(board: Board, digit: u8) -> Result<(), PlayError>
+    ensures { number_told result ≡ key_number board digit }
 {
     board_test(board)?;
     if !in_range(digit) {
@@ -134,7 +134,7 @@ fn cell_answer(board: Board, cell: usize) -> CellAnswer
 pub fn cell(board: Board, row: u8, column: u8) -> CellAnswer
     ensures { result ≡ cell_question board row column }
 {
-    match cell_test(&board, row, column) {
+    match cell_test(board, row, column) {
         Ok(()) => cell_answer(board, cell_of(row, column)),
         Err(e) => no_cell(e),
     }
@@ -144,7 +144,7 @@ pub fn cell(board: Board, row: u8, column: u8) -> CellAnswer
 pub fn conflicts(board: Board, row: u8, column: u8) -> YesNo
     ensures { result ≡ conflicts_question board row column }
 {
-    let test = cell_test(&board, row, column);
+    let test = cell_test(board, row, column);
     yes_no(test.map(|()| puzzle::conflicts(&board.digits, cell_of(row, column))))
 }
 
@@ -152,7 +152,7 @@ pub fn conflicts(board: Board, row: u8, column: u8) -> YesNo
 pub fn accepts_marks(board: Board, row: u8, column: u8) -> YesNo
     ensures { result ≡ accepts_marks_question board row column }
 {
-    let test = cell_test(&board, row, column);
+    let test = cell_test(board, row, column);
     yes_no(test.map(|()| !holds_digit(&board.digits, cell_of(row, column))))
 }
 
@@ -160,7 +160,7 @@ pub fn accepts_marks(board: Board, row: u8, column: u8) -> YesNo
 pub fn holds_players_digit(board: Board, row: u8, column: u8) -> YesNo
     ensures { result ≡ players_digit_question board row column }
 {
-    let test = cell_test(&board, row, column);
+    let test = cell_test(board, row, column);
     let place = cell_of(row, column);
     yes_no(test.map(|()| cell::holds_players_digit(&board.digits, &board.given, place)))
 }
@@ -169,28 +169,28 @@ pub fn holds_players_digit(board: Board, row: u8, column: u8) -> YesNo
 pub fn status(board: Board) -> YesNo
     ensures { result ≡ status_question board }
 {
-    yes_no(board_test(&board).map(|()| board.solved != 0))
+    yes_no(board_test(board).map(|()| board.solved != 0))
 }
 
 // Whether every cell holds a digit.
 pub fn is_full(board: Board) -> YesNo
     ensures { result ≡ full_question board }
 {
-    yes_no(board_test(&board).map(|()| puzzle::is_full(&board.digits)))
+    yes_no(board_test(board).map(|()| puzzle::is_full(&board.digits)))
 }
 
 // Whether no cell conflicts.
 pub fn is_consistent(board: Board) -> YesNo
     ensures { result ≡ consistent_question board }
 {
-    yes_no(board_test(&board).map(|()| puzzle::is_consistent(&board.digits)))
+    yes_no(board_test(board).map(|()| puzzle::is_consistent(&board.digits)))
 }
 
 // Whether a move is there to be taken back or made again. On a solved board none is.
 fn unless_solved(board: Board, there: bool) -> YesNo
     ensures { result ≡ yes_no (board_number board) (both (not (is_on board.solved)) there) }
 {
-    yes_no(board_test(&board).map(|()| board.solved == 0 && there))
+    yes_no(board_test(board).map(|()| board.solved == 0 && there))
 }
 
 // Whether a move stands to be taken back.
@@ -214,7 +214,7 @@ pub fn can_redo(board: Board) -> YesNo
 pub fn digits_left(board: Board, digit: u8) -> Left
     ensures { result ≡ left_question board digit }
 {
-    match key_test(&board, digit) {
+    match key_test(board, digit) {
         Ok(()) => Left {
             refusal: accepted(),
             left: puzzle::digits_left(&board.digits, digit),

@@ -18,8 +18,8 @@ use puzzle::answer::accepted;
 
 // Whether move k may be read: 1; 2; 14 of the first unsound slot of all that were made; 35.
 #[tactic(auto, using(board::proofs::Told::has_number), unfolding(crate::specs::Reading::reading_refusal, play::specs::Play::journal_refusal, puzzle::specs::Refusals::or_else, puzzle::specs::Refusals::refused_if, puzzle::specs::Refusals::is_accepted, sudoku::specs::Tests::both, sudoku::specs::Tests::pick))]
-fn reading_test(board: &Board, journal: &[u8], k: usize) -> Result<(), ReadingError>
-    ensures { told reading_error_refusal result ≡ reading_refusal board.now journal.now k }
+fn reading_test(board: Board, journal: &[u8], k: usize) -> Result<(), ReadingError>
+    ensures { told reading_error_refusal result ≡ reading_refusal board journal.now k }
 {
     lent(board, journal.len() == JOURNAL_BYTES)?;
     sound_slots(&board.given, journal, board.made)?;
@@ -74,7 +74,7 @@ fn reading_at(board: Board, journal: &[u8], k: usize) -> Reading
 pub fn reading(board: Board, journal: &[u8], k: usize) -> Reading
     ensures { result ≡ reading_of board journal.now k }
 {
-    match reading_test(&board, journal, k) {
+    match reading_test(board, journal, k) {
         Ok(()) => reading_at(board, journal, k),
         Err(e) => no_reading(e.into()),
     }

@@ -157,7 +157,7 @@ impl<'a> Kept<'a> {
         ensures same { IfOk result (λ k. (k.board.now ≡ board.now) × (k.journal.now ≡ journal.now) × (k.checks.now ≡ checks.now)) }
     {
         let fits = (journal.len() == JOURNAL_BYTES) & (checks.len() == CHECK_MEMORY);
-        lent(board, fits)?;
+        lent(*board, fits)?;
         sound_slots(&board.given, journal, board.made)?;
         sound_checks(&board.given, checks, board.checks)?;
         Ok(Kept {

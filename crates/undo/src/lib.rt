@@ -30,9 +30,9 @@ use puzzle::answer::accepted;
 
 // The number of the slot that a call asks. Refused by 1 2 4, and by 12 or 13.
 #[tactic(auto, unfolding(sudoku::specs::Tests::first, sudoku::specs::Tests::pick, board::specs::Board::lent_tests, board::specs::Board::counts_of, crate::specs::Code::Ways::before_slot))]
-fn slot_asked<D: Direction>(board: &Board, journal: &[u8]) -> Result<usize, PlayError>
-    ensures number { number_told result ≡ first (before_slot D.way board.now (length journal.now)) }
-    ensures slot { IfOk result (λ n. n ≡ D.way.slot (counts_of board.now)) }
+fn slot_asked<D: Direction>(board: Board, journal: &[u8]) -> Result<usize, PlayError>
+    ensures number { number_told result ≡ first (before_slot D.way board (length journal.now)) }
+    ensures slot { IfOk result (λ n. n ≡ D.way.slot (counts_of board)) }
 {
     lent(board, journal.len() == JOURNAL_BYTES)?;
     if board.solved != 0 {
@@ -51,7 +51,7 @@ fn go<D: Direction>(board: &mut Board, before: Board, journal: &[u8]) -> Result<
     requires { board.old ≡ before }
     ensures { answer (told (λ r. r) result) board.new ≡ call_of D.way before journal.now }
 {
-    let n = slot_asked::<D>(board, journal)?;
+    let n = slot_asked::<D>(before, journal)?;
     let slot = slot_at(journal, n);
     if !is_sound(&board.given, slot) {
         return Err(Refusal::from(Unsound::Slot { index: n })); // before anything is changed

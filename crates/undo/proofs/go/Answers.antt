@@ -17,7 +17,7 @@ pub returns-in_err-n : goal.returns-in_err-n
 returns-in_err-n g c =
     let w = g.D.Direction.way in
     let p = err_from_is_err_and c.from_residual.result c.from_residual.ensures.1 in
-    rw (p.1, p.2, c.requires) (stopped w g.met.D.Direction.laws c.args.before c.args.journal.now _ (rw c.requires at c.in_err-n.ensures.number))
+    rw (p.1, p.2, c.requires) (stopped w g.met.D.Direction.laws c.args.before c.args.journal.now _ c.in_err-n.ensures.number)
 
 pub returns-then-not-is_sound : goal.returns-then-not-is_sound
 unfolding state_of
@@ -26,7 +26,7 @@ returns-then-not-is_sound g c =
     let b = c.args.before in
     let slot = slot_at c.args.journal.now (w.slot (counts_of b)) in
     let asks : c.is_sound.result ≡ is_sound b.given slot = rw (c.is_sound.ensures, c.slot_at-slot.ensures, c.in_ok-n.ensures.slot, c.requires) in
-    rw (c.from.ensures, c.in_ok-n.ensures.slot, c.requires) (unfit w g.met.D.Direction.laws b c.args.journal.now (rw c.requires at c.in_ok-n.ensures.number) (unsound_unfit w g.met.D.Direction.laws (state_of b) slot (sym asks ∙ c.if-not-is_sound.true)))
+    rw (c.from.ensures, c.in_ok-n.ensures.slot, c.requires) (unfit w g.met.D.Direction.laws b c.args.journal.now c.in_ok-n.ensures.number (unsound_unfit w g.met.D.Direction.laws (state_of b) slot (sym asks ∙ c.if-not-is_sound.true)))
 
 pub returns-then-not-digit_stood-marks_stood : goal.returns-then-not-digit_stood-marks_stood
 unfolding state_of moved board_of
@@ -38,7 +38,7 @@ returns-then-not-digit_stood-marks_stood g c =
     let stay = notes_stay w (state_of b) (cell_of slot.row slot.column) (digit_change slot) in
     let ok : (c.put-digit_stood.result && c.change-marks_stood.result) ≡ fits w (state_of b) slot =
     rw (c.put-digit_stood.ensures.stood, c.change-marks_stood.ensures.stood, c.put-digit_stood.ensures.board, c.slot_at-slot.ensures, c.in_ok-n.ensures.slot, c.requires, stay) (fits_parts w g.met.D.Direction.laws (state_of b) slot (sym asks ∙ c.if-not-is_sound.false)) in
-    rw (c.from-then-not-digit_stood-marks_stood.ensures, c.in_ok-n.ensures.slot, c.requires) (unfit w g.met.D.Direction.laws b c.args.journal.now (rw c.requires at c.in_ok-n.ensures.number) (sym ok ∙ c.if-not-digit_stood-marks_stood.true))
+    rw (c.from-then-not-digit_stood-marks_stood.ensures, c.in_ok-n.ensures.slot) (unfit w g.met.D.Direction.laws b c.args.journal.now c.in_ok-n.ensures.number (sym ok ∙ c.if-not-digit_stood-marks_stood.true))
 
 pub returns : goal.returns
 unfolding moved board_of state_of counts_of
@@ -52,4 +52,4 @@ returns g c =
     let ok : (c.put-digit_stood.result && c.change-marks_stood.result) ≡ fits w (state_of b) slot =
     rw (c.put-digit_stood.ensures.stood, c.change-marks_stood.ensures.stood, c.put-digit_stood.ensures.board, c.slot_at-slot.ensures, c.in_ok-n.ensures.slot, c.requires, stay) (fits_parts w laws (state_of b) slot (sym asks ∙ c.if-not-is_sound.false)) in
     rw (c.change-marks_stood.ensures.board, c.put-digit_stood.ensures.board, c.step.ensures, c.slot_at-slot.ensures, c.in_ok-n.ensures.slot, c.requires)
-    (ap (λ (s : State). answer accepted (moved b s (w.counts (counts_of b)))) (laws.whole (state_of b) slot) ∙ gone w laws b c.args.journal.now (rw c.requires at c.in_ok-n.ensures.number) (sym ok ∙ c.if-not-digit_stood-marks_stood.false))
+    (ap (λ (s : State). answer accepted (moved b s (w.counts (counts_of b)))) (laws.whole (state_of b) slot) ∙ gone w laws b c.args.journal.now c.in_ok-n.ensures.number (sym ok ∙ c.if-not-digit_stood-marks_stood.false))

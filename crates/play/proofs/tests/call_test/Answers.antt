@@ -17,17 +17,17 @@ returns-in_err-lent c = told_by _ _ _ c.from_residual.ensures.1 (lent_err _ _ _ 
 pub returns-in_err-move_test : goal.returns-in_err-move_test
 unfolding call_tests
 returns-in_err-move_test c =
-    let own = c.in_err-move_test.ensures in
+    let own = rw c.requires at c.in_err-move_test.ensures in
     told_by _ _ _ c.from_residual-in_err-move_test.ensures.1 (told_err _ _ _ own ∙ sym (lent_ok _ _ _ c.in_ok-lent.ensures))
 
 pub returns-then-board-eq-MAX_MOVES : goal.returns-then-board-eq-MAX_MOVES
 unfolding call_tests
 returns-then-board-eq-MAX_MOVES c =
-    let own = c.in_ok-move_test.ensures in
-    sym (lent_ok _ _ _ c.in_ok-lent.ensures ∙ told_ok _ _ (moves_numbered (state_of c.args.board.now) c.args.m) own ∙ refused _ 15 _ (eq-eqb _ _ c.if-board-eq-MAX_MOVES.true))
+    let own = rw c.requires at c.in_ok-move_test.ensures in
+    sym (lent_ok _ _ _ c.in_ok-lent.ensures ∙ told_ok _ _ (moves_numbered (state_of c.args.board) c.args.m) own ∙ refused _ 15 _ (eq-eqb _ _ c.if-board-eq-MAX_MOVES.true))
 
 pub returns : goal.returns
 unfolding call_tests
 returns c =
-    let own = c.in_ok-move_test.ensures in
-    sym (lent_ok _ _ _ c.in_ok-lent.ensures ∙ told_ok _ _ (moves_numbered (state_of c.args.board.now) c.args.m) own ∙ last_if _ 15 (ne_eqb _ _ c.if-board-eq-MAX_MOVES.false))
+    let own = rw c.requires at c.in_ok-move_test.ensures in
+    sym (lent_ok _ _ _ c.in_ok-lent.ensures ∙ told_ok _ _ (moves_numbered (state_of c.args.board) c.args.m) own ∙ last_if _ 15 (ne_eqb _ _ c.if-board-eq-MAX_MOVES.false))
