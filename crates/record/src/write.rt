@@ -45,7 +45,7 @@ pub fn move_length(m: Move) -> usize
     }
 }
 
-// Bytes at an offset; answers where they end.
+// Bytes at an offset; answers where they end. Over an array of `N` bytes writing takes nearly twice as long.
 fn lay(output: &mut [u8], at: usize, bytes: &[u8]) -> usize
     requires { at + length bytes.now ≤ length output.old }
     ensures { (result ≡ at + length bytes.now) × (output.new ≡ over output.old at bytes.now) }
@@ -55,8 +55,10 @@ fn lay(output: &mut [u8], at: usize, bytes: &[u8]) -> usize
     end
 }
 
-// An item, its kind byte in front.
+// An item, its kind byte in front. It is laid into its callers, each of which has items of one kind: where it is a
+// call of its own, the item lies in memory between the two, and writing takes half as long again.
 #[tactic(auto, unfolding(crate::specs::Items::encode, journal::specs::Bytes::low, journal::specs::Bytes::second))]
+#[inline(always)]
 fn lay_item(item: Item, output: &mut [u8], at: usize) -> usize
     requires { at + length (encode item) ≤ length output.old }
     ensures { (result ≡ at + length (encode item)) × (output.new ≡ over output.old at (encode item)) }
