@@ -2,14 +2,14 @@
 // caller hands over, so the peers of a cell are asked for once; a cell that the grid does not have changes nothing.
 ghost use Rattle.std.specs.Prelude.{◌≡◌, ℕ, Bool, List, not, ◌+◌, ◌*◌, ◌<◌, ◌^◌};
 ghost use Rattle.sudoku.specs.Tests.{pick, either, bit};
-ghost use Rattle.sudoku.specs.Grid.{at, put};
+ghost use Rattle.sudoku.specs.Grid.{at};
 ghost use Rattle.note.specs.Note.{contains as contains_of, power_of, with_mark, without};
 ghost use Rattle.journal.specs.State.{write_at, strike_at, strike_all, holders as holders_of, lowest, strike_masked, write_masked};
 ghost use Rattle.journal.specs.Code.InTurn.{lacks, not_missing, lack_in_turn, none_missing_in_turn};
 ghost use Rattle.journal.specs.Code.Marks.{MarkLaws, write_laws, strike_laws};
 
 use note::{contains, power};
-use puzzle::index_of;
+use puzzle::{entry_at, put_at};
 use sudoku::PEERS_PER_CELL;
 
 // The kept note of a cell, and an empty note where there is no such cell.
@@ -17,7 +17,7 @@ use sudoku::PEERS_PER_CELL;
 pub fn note_at(notes: &[u16; 81], cell: usize) -> u16
     ensures { result ≡ at notes.now cell }
 {
-    notes.get(index_of(cell)).copied().unwrap_or(0)
+    entry_at(notes, cell, 0)
 }
 
 // A change of one mark. The mark is handed over by its value, and 0 stands for no mark,
@@ -94,23 +94,12 @@ impl MarkChange for Strike {
     }
 }
 
-// The note of a cell stored.
-#[tactic(auto, unfolding(sudoku::specs::Grid::put))]
-fn put_note(notes: &mut [u16; 81], cell: usize, note: u16)
-    ensures { notes.new ≡ put notes.old cell note }
-{
-    let at = index_of(cell);
-    if at < notes.len() {
-        notes[at] = note;
-    }
-}
-
 // The mark `digit` changed at a cell.
 pub fn change_in<C: MarkChange>(notes: &mut [u16; 81], cell: usize, digit: u8)
     ensures { notes.new ≡ C.at_cell notes.old cell digit }
 {
     let note = note_at(notes, cell);
-    put_note(notes, cell, C::changed(note, power(digit)));
+    put_at(notes, cell, C::changed(note, power(digit)));
 }
 
 // The mark `digit` struck from each of the cells that has it, whether the cell holds a digit or not.
@@ -158,7 +147,7 @@ fn change_if<C: MarkChange>(notes: &mut [u16; 81], cell: usize, digit: u8, mask:
 {
     let mark = mark_if(digit, mask);
     let note = note_at(notes, cell);
-    put_note(notes, cell, C::changed(note, mark));
+    put_at(notes, cell, C::changed(note, mark));
     C::is_fit(note, mark)
 }
 

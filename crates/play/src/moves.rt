@@ -1,6 +1,5 @@
 // The four moves: what each one does to the board, what it displaces, and how it is recorded.
 ghost use Rattle.std.specs.Prelude.{◌*◌, ◌≡◌};
-ghost use Rattle.sudoku.specs.Grid.{put as put_of};
 ghost use Rattle.journal.specs.State.{put_digit, perform as perform_of};
 ghost use Rattle.journal.specs.Counts.{recorded};
 ghost use Rattle.journal.specs.Limits.{slot_bytes};
@@ -15,27 +14,15 @@ use journal::notes::{Strike, Write, change_in, holders, strike_all_in};
 use journal::slots::write_slot;
 use journal::{Counts, ERASE, Move, PLACE, STRIKE_MARK, Slot, WRITE_MARK};
 use puzzle::answer::accepted;
-use puzzle::{digit_at, index_of, settled};
+use puzzle::{digit_at, put_at, settled};
 use sudoku::{cell_of, peers};
 
-// A digit put at a cell, in place; where the grid has no such cell the digits stay as they are.
-fn set_digit(digits: &mut [u8; 81], cell: usize, digit: u8)
-    ensures { digits.new ≡ put_of digits.old cell digit }
-{
-    let all: &mut [u8] = digits;
-    let at = index_of(cell);
-    if at >= all.len() {
-        return;
-    }
-    all[at] = digit;
-}
-
 // A digit put into a cell, which settles the status; 0 empties the cell, which settles nothing.
-#[tactic(auto, unfolding(board::specs::Board::state_of, board::specs::Board::counts_of, board::specs::Board::board_of, board::specs::Board::moved, journal::specs::State::put_digit, sudoku::specs::Tests::pick))]
+#[tactic(auto, unfolding(board::specs::Board::state_of, board::specs::Board::counts_of, board::specs::Board::board_of, board::specs::Board::moved, journal::specs::State::put_digit, sudoku::specs::Grid::put, sudoku::specs::Tests::pick))]
 pub fn put(board: &mut Board, cell: usize, digit: u8)
     ensures { board.new ≡ moved board.old (put_digit (state_of board.old) cell digit) (counts_of board.old) }
 {
-    set_digit(&mut board.digits, cell, digit);
+    put_at(&mut board.digits, cell, digit);
     if digit != 0 {
         board.solved = settled(&board.digits, board.solved);
     }

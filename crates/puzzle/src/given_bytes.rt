@@ -4,7 +4,7 @@ ghost use Rattle.puzzle.specs.declared.Given.{Given};
 ghost use Rattle.puzzle.specs.Givens.{precedes as precedes_to, ascending, digits_of, given_cells};
 ghost use Rattle.puzzle.specs.Code.GivenBytes.{given_from, given_in, givens_in, laid_by};
 
-use crate::{Given, Layout, byte_at, index_of};
+use crate::{Given, Layout, byte_at, put_at};
 use sudoku::cell_of;
 
 // The given whose three bytes start at an index; bytes past the end read as 0.
@@ -75,7 +75,7 @@ impl<'a> GivenBytes<'a> {
         let mut cells = [0u8; 81];
         for i in 0..self.count {
             let given = self.given(i);
-            cells[index_of(cell_of(given.row, given.column))] = entry(given);
+            put_at(&mut cells, cell_of(given.row, given.column), entry(given));
         }
         cells
     }

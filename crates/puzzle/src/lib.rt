@@ -2,7 +2,7 @@
 // what a setter may pose, conflicts, and when a puzzle is solved.
 #![tactic(auto)]
 
-ghost use Rattle.std.specs.Prelude.{◌≡◌, ◌≤◌, ◌-◌, eqb, get_or};
+ghost use Rattle.std.specs.Prelude.{◌≡◌, ◌≤◌, ◌-◌, eqb, get_or, set};
 ghost use Rattle.sudoku.specs.Tests.{count};
 ghost use Rattle.sudoku.specs.Grid.{at};
 ghost use Rattle.puzzle.specs.Puzzle.{is_held, holds_digit, conflicts as conflicts_at, is_full, is_consistent, settled as settled_by, digits_left};
@@ -60,12 +60,30 @@ pub fn index_of(cell: usize) -> usize
     cell.saturating_sub(1)
 }
 
+// The entry of a cell in a list of 81, and `none` where the grid has no such cell.
+pub fn entry_at<T: Copy>(entries: &[T; 81], cell: usize, none: T) -> T
+    ensures { result ≡ get_or entries.now (cell - 1) none }
+{
+    entries.get(index_of(cell)).copied().unwrap_or(none)
+}
+
+// An entry put in a list of 81 at a cell; where the grid has no such cell the list stays as it is.
+// By an index with a test: of an array that `get_mut` wrote through, a proof knows the length alone.
+pub fn put_at<T: Copy>(entries: &mut [T; 81], cell: usize, entry: T)
+    ensures { entries.new ≡ set entries.old (cell - 1) entry }
+{
+    let at = index_of(cell);
+    if at < entries.len() {
+        entries[at] = entry;
+    }
+}
+
 // The digit at a cell, 0 where it holds none or where the grid has no such cell.
 #[tactic(auto, unfolding(sudoku::specs::Grid::at))]
 pub fn digit_at(digits: &[u8; 81], cell: usize) -> u8
     ensures { result ≡ at digits.now cell }
 {
-    byte_at(digits, index_of(cell))
+    entry_at(digits, cell, 0)
 }
 
 // Whether a cell holds a digit.
