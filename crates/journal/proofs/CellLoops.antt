@@ -11,13 +11,13 @@ use native.Mathlib.Omega.{arith}
 use borrow.Author.Tests.{eqb-true, eqb-false}
 use lib.Bits.{bit_and, bit_or, and_zero_r, or_zero_r}
 use lib.Dec.{eqb}
-use lib.ListN.{length, get_or, drop, length-drop}
+use lib.ListN.{length, get_or, drop}
 use lib.Pow.{pow_mono}
 use lib.Seq.{drop-cons, set-get_or}
 use Rattle.sudoku.specs.Tests.{pick, both, either, bit}
 use Rattle.sudoku.specs.Grid.{at, put}
 use Rattle.sudoku.proofs.Walks.{by_test, both_second}
-use Rattle.note.specs.Note.{contains, with_mark, without, power_of}
+use Rattle.note.specs.Note.{with_mark, without, power_of}
 use Rattle.note.proofs.Note.{or_power, less_power, power_tests, power_there}
 use Rattle.journal.specs.State.{strike_at, strike_all, holders, lowest}
 use Rattle.journal.specs.Code.InTurn.{in_turn, lacks, not_missing}
@@ -50,15 +50,6 @@ module _ (cells : List ℕ) (i : ℕ) (h : i < length cells) where
   in_turn_step change test notes after mask true r e q = rw (cells_left cells i h, e, q)
   in_turn_step change test notes after mask false r e q = refl
 
--- the loop that makes the mask comes from the end: after the turn that
--- passes from i to i - 1 the mask is that of the cells from i - 1 on
-pub holders_turn : (notes cells : List ℕ) (d i mask : ℕ) → length cells ≡ 20 → 0 < i → i ≤ 20 → mask ≡ holders notes d (drop i cells)
-    → bit (contains (at notes (get_or cells (i - 1) 0)) d) + 2 * mask ≡ holders notes d (drop (i - 1) cells)
-unfolding holders
-holders_turn notes cells d i mask n l u m =
-    let back : i - 1 + 1 ≡ i = omega arith in
-    rw (cells_left cells (i - 1) (omega arith), back, m)
-
 -- ---- at the end nothing is left
 
 module _ (cells : List ℕ) (i : ℕ) (h : length cells ≤ i) where
@@ -70,11 +61,6 @@ module _ (cells : List ℕ) (i : ℕ) (h : length cells ≤ i) where
       → both ok (in_turn change test notes mask (drop i cells)) ≡ ok
   unfolding in_turn
   in_turn_end change test notes mask ok = rw (drop_past cells i h) (both_second ok true refl)
-
-  -- this loop starts at the end
-  pub holders_end : (notes : List ℕ) (d : ℕ) → holders notes d (drop i cells) ≡ 0
-  unfolding holders
-  holders_end notes d = rw (drop_past cells i h)
 
 -- ---- the two changes of a mark, by their laws
 
@@ -136,8 +122,7 @@ unfolding pick put at
 put_pick true notes cell x = refl
 put_pick false notes cell x = sym (set-get_or notes (cell - 1) 0)
 
--- ---- the mask of what is left of twenty cells fits twenty bits
+-- ---- the mask of twenty cells at most fits twenty bits
 
-pub holders_fit : (notes cells : List ℕ) (d i : ℕ) → length cells ≡ 20 → holders notes d (drop i cells) < 2 ^ 20
-holders_fit notes cells d i n =
-    lt_of_lt_of_le (holders_small notes d (drop i cells)) (pow_mono {j = 20} (rw (length-drop, n) (omega arith)))
+pub holders_fit : (notes cells : List ℕ) (d : ℕ) → length cells ≤ 20 → holders notes d cells < 2 ^ 20
+holders_fit notes cells d n = lt_of_lt_of_le (holders_small notes d cells) (pow_mono {j = 20} n)

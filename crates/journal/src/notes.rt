@@ -10,7 +10,6 @@ ghost use Rattle.journal.specs.Code.Marks.{MarkLaws, write_laws, strike_laws};
 
 use note::{contains, power};
 use puzzle::{entry_at, put_at};
-use sudoku::PEERS_PER_CELL;
 
 // The kept note of a cell, and an empty note where there is no such cell.
 #[tactic(auto, unfolding(sudoku::specs::Grid::at))]
@@ -126,8 +125,8 @@ pub fn holders(notes: &[u16; 81], digit: u8, cells: [u8; 20]) -> u32
     ensures { (result ≡ holders_of notes.now digit cells) × (result < 2 ^ 20) }
 {
     let mut mask = 0;
-    for i in (0..PEERS_PER_CELL).rev() {
-        mask = with_bit(mask, note_at(notes, usize::from(cells[i])), digit);
+    for cell in cells.iter().rev() {
+        mask = with_bit(mask, note_at(notes, usize::from(*cell)), digit);
     }
     mask
 }

@@ -53,7 +53,8 @@ pub fn is_empty(note: u16) -> bool
     len(note) == 0
 }
 
-// The marks written, from the lowest digit to the highest, then zeros.
+// The marks written, from the lowest digit to the highest, then zeros. There is no heap to collect them on,
+// so each is stored behind the ones before it.
 pub fn digits(note: u16) -> [u8; 9]
     ensures { result ≡ digits_of note }
 {

@@ -26,7 +26,7 @@ impl From<Unsound> for Refusal {
     }
 }
 
-// 14 of the first of the slots 1 to made that is unsound.
+// 14 of the first of the slots 1 to made that is unsound. A loop: `find` would give a number that is still to be told.
 pub fn sound_slots(given: &[u8; 81], journal: &[u8], made: usize) -> Result<(), Unsound>
     ensures { told unsound_refusal result ≡ first_refused (unsound_slot given.now journal.now) made 1 }
 {

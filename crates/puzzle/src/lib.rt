@@ -60,14 +60,14 @@ pub fn index_of(cell: usize) -> usize
     cell.saturating_sub(1)
 }
 
-// The entry of a cell in a list of 81, and `none` where the grid has no such cell.
+// The entry of a cell in a list of 81, and `none` past its end.
 pub fn entry_at<T: Copy>(entries: &[T; 81], cell: usize, none: T) -> T
     ensures { result ≡ get_or entries.now (cell - 1) none }
 {
     entries.get(index_of(cell)).copied().unwrap_or(none)
 }
 
-// An entry put in a list of 81 at a cell; where the grid has no such cell the list stays as it is.
+// An entry put in a list of 81 at a cell; past its end nothing is put.
 // By an index with a test: of an array that `get_mut` wrote through, a proof knows the length alone.
 pub fn put_at<T: Copy>(entries: &mut [T; 81], cell: usize, entry: T)
     ensures { entries.new ≡ set entries.old (cell - 1) entry }
@@ -125,8 +125,8 @@ pub fn is_consistent(digits: &[u8; 81]) -> bool
     columns_clear(digits) && clear_in(digits, &ROWS) && clear_in(digits, &BOXES)
 }
 
-// The status after a digit was put into a cell, 1 for solved. Solved
-// is final; the full grid is the cheaper test and comes first.
+// The status after a digit was put into a cell, 1 for solved: a byte, as the board's in the C interface is.
+// Solved is final; the full grid is the cheaper test and comes first.
 #[tactic(auto, unfolding(crate::specs::Puzzle::settled, sudoku::specs::Tests::both, sudoku::specs::Tests::pick))]
 pub fn settled(digits: &[u8; 81], solved: u8) -> u8
     ensures { result ≡ settled_by digits.now solved }

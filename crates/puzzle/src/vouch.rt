@@ -56,7 +56,8 @@ fn solution_digit(digit: u8, cell: usize) -> Result<(), WellPosedError>
     Ok(())
 }
 
-// 23 and 24 over the cells in grid order.
+// 23 and 24 over the cells in grid order. A loop with `?`: `try_for_each` would ask for a closure over the nine rows
+// and say no more; so too in the two walks below that answer a refusal.
 fn first_unfilled(rows: [[u8; 9]; 9]) -> Result<(), WellPosedError>
     ensures { told well_posed_refusal result ≡ first_refused (solution_digit (flat_of rows)) 81 1 }
 {
@@ -90,6 +91,7 @@ pub fn filled(rows: [[u8; 9]; 9]) -> Result<(), WellPosedError>
 
 // The first of the cells that holds the digit. A function that
 // reads one digit would be handed a copy of the rows at every turn.
+// With `find` the proof did not close: its closure must be told that each cell lies on the grid.
 fn first_holding(rows: [[u8; 9]; 9], digit: u8, cells: [u8; 20]) -> Option<u8>
     requires { (i : ℕ) → i < 20 → (1 ≤ get_or cells i 0) × (get_or cells i 0 ≤ 81) }
     ensures first { unwrap_or result 0 ≡ first_holding (flat_of rows) digit cells }

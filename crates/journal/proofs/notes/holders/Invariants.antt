@@ -1,9 +1,10 @@
--- `journal::notes::holders` meets its contract. The loop's invariant: the mask is that of the cells from i on.
+-- `journal::notes::holders` meets its contract. The loop's invariant: the mask is that of the cells passed so far.
 -- Assumes nothing.
 use mathlib.Core.Path.{◌≡◌}
-use lib.ListN.{drop}
+use mathlib.Core.List.{List, ◌++◌}
+use Prim.Native.Nat.{ℕ}
 use Rattle.journal.specs.State.{holders}
 use Rattle.journal.proofs.notes.holders.Given as goal
 
-abbrev pub invariant-loop-i : goal.invariant-loop-i
-invariant-loop-i l = l.mask ≡ holders l.notes l.digit (drop l.i l.cells)
+abbrev pub invariant-loop-cell : goal.invariant-loop-cell
+invariant-loop-cell l = (passed : List ℕ) × (l.fn.cells ≡ l.cell-iterator.iter.rest.now ++ passed) × (l.mask ≡ holders l.notes l.digit passed)
