@@ -18,7 +18,7 @@ use print::deeds::{made, verdict};
 use print::drawing::{keys, position, whole};
 use print::words::explain;
 use print::{Printable, say, show};
-use puzzle::{Refusal, digit_at};
+use puzzle::digit_at;
 use readings::read::reading;
 use record::RECORD_BYTES;
 use record::write::write;
@@ -141,20 +141,15 @@ fn move_named(verb: Verb, n: Numbers) -> Move
     }
 }
 
-// Whether a call was accepted; says why where it was refused.
-fn is_accepted(refused: Refusal) -> bool {
-    if refused.number != 0 {
-        explain(refused);
-    }
-    refused.number == 0
-}
-
 // The board's own line: its givens, whatever was played.
 fn show_line(board: Board) {
     let mut line = [0u8; LINE_BYTES];
-    if is_accepted(write_line(board, &mut line).refusal) {
-        say(&line);
-        show("\n");
+    match write_line(board, &mut line).refusal.outcome() {
+        Ok(()) => {
+            say(&line);
+            show("\n");
+        }
+        Err(refused) => explain(refused),
     }
 }
 
@@ -164,8 +159,9 @@ impl Game {
         ensures { played self.new ≡ record (played self.old) { board = answer.board } }
     {
         self.board = answer.board;
-        if is_accepted(answer.refusal) {
-            whole(self.board, self.coloured);
+        match answer.refusal.outcome() {
+            Ok(()) => whole(self.board, self.coloured),
+            Err(refused) => explain(refused),
         }
     }
 
@@ -213,7 +209,8 @@ impl Game {
         };
         let answer = check(self.board, &mut self.memory.checks, n.row, n.column);
         self.board = answer.board;
-        if !is_accepted(answer.refusal) {
+        if let Err(refused) = answer.refusal.outcome() {
+            explain(refused);
             return;
         }
         whole(self.board, self.coloured);
@@ -248,10 +245,12 @@ impl Game {
             return;
         };
         let r = reading(self.board, &self.memory.journal, k);
-        if is_accepted(r.refusal) {
-            position(&r.digits, &self.board.given, &r.notes, self.coloured);
-            made(k, slot_at(&self.memory.journal, k), r.undone);
+        if let Err(refused) = r.refusal.outcome() {
+            explain(refused);
+            return;
         }
+        position(&r.digits, &self.board.given, &r.notes, self.coloured);
+        made(k, slot_at(&self.memory.journal, k), r.undone);
     }
 
     // Saves the game under a name.
@@ -267,7 +266,8 @@ impl Game {
             &self.memory.checks,
             &mut out,
         );
-        if !is_accepted(written.refusal) {
+        if let Err(refused) = written.refusal.outcome() {
+            explain(refused);
             return;
         }
         let record = out.get(..written.length).unwrap_or(&[]);

@@ -1,6 +1,6 @@
 -- Answers to a refused call: number, place, inner number; the last two are 0 where the documents say nothing of them.
 -- Assumes nothing.
-use Rattle.std.specs.Prelude.{ℕ, zero, suc, Bool, eqb, Result, Ok, Err}
+use Rattle.std.specs.Prelude.{ℕ, zero, suc, Bool, eqb, Result, Ok, Err, ⊤}
 use Rattle.sudoku.specs.Tests.{pick}
 use Rattle.puzzle.specs.declared.Refusal.{Refusal}
 
@@ -18,6 +18,10 @@ told f (Err e) = f e
 
 unfoldable pub is_accepted : Refusal → Bool
 is_accepted r = eqb r.number 0
+
+-- an answer as a result: Ok where nothing is refused
+unfoldable pub outcome : Refusal → Result ⊤ Refusal
+outcome r = pick (is_accepted r) (Ok tt) (Err r)
 
 -- refused where the test holds
 unfoldable pub refused_if : Bool → Refusal → Refusal

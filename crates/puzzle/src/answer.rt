@@ -1,6 +1,6 @@
 // Answers of calls: refused by a number, or accepted.
 ghost use Rattle.std.specs.Prelude.{◌≡◌, MatchResult};
-ghost use Rattle.puzzle.specs.Refusals.{refusal as refusal_of, accepted as accepted_of};
+ghost use Rattle.puzzle.specs.Refusals.{refusal as refusal_of, accepted as accepted_of, outcome as outcome_of};
 
 use crate::Refusal;
 
@@ -29,5 +29,15 @@ pub fn told<E: Into<Refusal>>(outcome: Result<(), E>) -> Refusal
     match outcome {
         Ok(()) => accepted(),
         Err(e) => e.into(),
+    }
+}
+
+impl Refusal {
+    // An answer as a result: Ok where nothing is refused.
+    #[tactic(auto, unfolding(crate::specs::Refusals::outcome, crate::specs::Refusals::is_accepted, sudoku::specs::Tests::pick))]
+    pub fn outcome(self) -> Result<(), Refusal>
+        ensures { result ≡ outcome_of self }
+    {
+        if self.number == 0 { Ok(()) } else { Err(self) }
     }
 }

@@ -22,9 +22,9 @@ RECORD is a saved game, SOLUTION a text of 81 digits; blanks and line ends in it
 // A record reopened with its solution. Of one that does not reopen nothing is said but the refusal.
 fn reopened(record: &[u8], right: &[u8; 81], memory: &mut Memory) -> Option<Board> {
     let answer = reopen(record, right, &mut memory.journal, &mut memory.checks);
-    if answer.refusal.number != 0 {
+    if let Err(refused) = answer.refusal.outcome() {
         show("the record does not reopen, ");
-        explain(answer.refusal);
+        explain(refused);
         return None;
     }
     Some(answer.board)

@@ -75,9 +75,9 @@ pub fn whole(board: Board, memory: &Memory) {
 // The reading of move k: what it did, and the board as it stood after it.
 pub fn one_move(board: Board, memory: &Memory, k: usize) {
     let r = reading(board, &memory.journal, k);
-    if r.refusal.number != 0 {
+    if let Err(refused) = r.refusal.outcome() {
         show("there is no reading of that move: ");
-        return explain(r.refusal);
+        return explain(refused);
     }
     made(k, slot_at(&memory.journal, k), r.undone);
     show("the board after it\n");
