@@ -2,9 +2,6 @@
 // of it is functions of bytes, with their contracts.
 #![tactic(auto)]
 
-ghost use Rattle.std.specs.Prelude.{◌≡◌};
-ghost use Rattle.texts.specs.Parts.{part_of};
-
 pub mod commands;
 pub mod grids;
 
@@ -51,12 +48,4 @@ pub struct Command<'a> {
     pub first: &'a [u8],
     pub second: &'a [u8],
     pub third: &'a [u8],
-}
-
-// The part of some bytes from `start` on, before `end`; none where they have no such part.
-#[tactic(auto, unfolding(crate::specs::Parts::part_of, sudoku::specs::Tests::pick, sudoku::specs::Tests::both))]
-pub fn part(bytes: &[u8], start: usize, end: usize) -> &[u8]
-    ensures { result.now ≡ part_of bytes.now start end }
-{
-    bytes.get(start..end).unwrap_or(&[])
 }
