@@ -17,7 +17,7 @@ ghost use Rattle.record.specs.Reopen.{replay as replay_of, take_back_all, to_pla
 ghost use Rattle.reopen.specs.Code.Reopening.{moves_at, asks_at, next_refusal, asked_number, settled_by, reopened_of, Reopens};
 
 use board::error::PlayError;
-use board::open::{clear, lent_lengths, wrong_length, zero_board};
+use board::open::{lent_lengths, wrong_length, zero_board};
 use board::{Answer, Board};
 use journal::checks::{is_right, store_check};
 use journal::slots::is_given;
@@ -214,16 +214,16 @@ pub fn reopen(bytes: &[u8], solution: &[u8], journal: &mut [u8], checks: &mut [u
     if !lent_lengths(solution.len(), journal.len(), checks.len()) {
         return wrong_length();
     }
-    clear(journal);
-    clear(checks);
+    journal.fill(0);
+    checks.fill(0);
     match reopened(bytes, solution, journal, checks) {
         Ok(board) => Answer {
             refusal: accepted(),
             board,
         },
         Err(e) => {
-            clear(journal);
-            clear(checks);
+            journal.fill(0);
+            checks.fill(0);
             Answer {
                 refusal: e.into(),
                 board: zero_board(),

@@ -18,7 +18,7 @@ unfolding lent_lengths
 reopened-requires c =
     let a = c.args in
     let lengths = sym c.lent_lengths.ensures ∙ c.if-not-lent_lengths.false in
-    (solution_length a.bytes.now a.solution.now a.journal.now a.checks.now lengths, journal_zero a.bytes.now a.solution.now a.journal.now a.checks.now lengths _ _ refl c.clear.ensures, checks_zero a.bytes.now a.solution.now a.journal.now a.checks.now lengths _ _ refl c.clear-2.ensures)
+    (solution_length a.bytes.now a.solution.now a.journal.now a.checks.now lengths, journal_zero a.bytes.now a.solution.now a.journal.now a.checks.now lengths _ _ refl (c.fill.ensures.after (λ _ e. e)), checks_zero a.bytes.now a.solution.now a.journal.now a.checks.now lengths _ _ refl (c.fill-2.ensures.after (λ _ e. e)))
 
 pub returns-in-Ok : goal.returns-in-Ok
 unfolding lent_lengths
@@ -34,5 +34,5 @@ returns-in-Err c =
     let lengths = sym c.lent_lengths.ensures ∙ c.if-not-lent_lengths.false in
     rw c.into.ensures
     (lent_refused a.bytes.now a.solution.now a.journal.now a.checks.now lengths _ c.in-Err.ensures.refusal (reopen_numbered c.in-Err.e) _ _ _ c.zero_board.ensures
-    (journal_zero a.bytes.now a.solution.now a.journal.now a.checks.now lengths _ _ (c.reopened.auto.journal ∙ c.clear.auto.memory) c.clear-in-Err.ensures)
-    (checks_zero a.bytes.now a.solution.now a.journal.now a.checks.now lengths _ _ (c.reopened.auto.checks ∙ c.clear-2.auto.memory) c.clear-in-Err-2.ensures))
+    (journal_zero a.bytes.now a.solution.now a.journal.now a.checks.now lengths _ _ (c.reopened.auto.journal ∙ c.fill.auto.self) (c.fill-in-Err.ensures.after (λ _ e. e)))
+    (checks_zero a.bytes.now a.solution.now a.journal.now a.checks.now lengths _ _ (c.reopened.auto.checks ∙ c.fill-2.auto.self) (c.fill-in-Err-2.ensures.after (λ _ e. e))))
