@@ -77,7 +77,7 @@ fn lay_given(digits: &[u8; 81], cell: usize, output: &mut [u8], at: usize) -> us
     end
 }
 
-// The digits of 81 cells as givens, in the order of their cells.
+// The digits of 81 cells as givens, in the order of their cells. Crate record walks the cells so too, over items.
 fn lay_givens(digits: &[u8; 81], output: &mut [u8]) -> usize
     requires { givens_room ≤ length output.old }
     ensures { (result ≡ length (digits_bytes digits.now)) × (output.new ≡ over output.old 0 (digits_bytes digits.now)) }

@@ -1,6 +1,6 @@
 -- A record laid into the output, item after item: what is left to lay decides, and how many bytes the groups have.
 -- Assumes nothing.
-use Prim.Native.Nat.{ℕ, ◌+◌, ◌-◌, ◌*◌, ◌≤◌, ◌<◌}
+use Prim.Native.Nat.{ℕ, zero, suc, ◌+◌, ◌-◌, ◌*◌, ◌≤◌, ◌<◌}
 use mathlib.Core.Path.{◌≡◌, refl, sym, ap, ◌∙◌}
 use mathlib.Core.List.{List, [], ◌∷◌, ◌++◌, map}
 use native.Mathlib.Nat.{sub-eq-zero_of_le}
@@ -15,7 +15,6 @@ use Rattle.sudoku.proofs.Listed.{length_listed}
 use Rattle.puzzle.specs.declared.Given.{Given as Setters}
 use Rattle.puzzle.proofs.GivensBy.{bytes_left, bytes_turn, bytes_none, by_length}
 use Rattle.journal.specs.Limits.{check_item_bytes, given_item_bytes, undone_item_bytes}
-use Rattle.journal.specs.declared.Move.{Move}
 use Rattle.journal.specs.Bytes.{low, second, over}
 use Rattle.journal.specs.Slots.{slot_at, move_of}
 use Rattle.journal.specs.StoredChecks.{asked_at}
@@ -25,7 +24,7 @@ use Rattle.record.specs.declared.Item.{Item}
 use Rattle.record.specs.declared.Item.TheVariants.{Played}
 use Rattle.record.specs.Items.{encode, encode_all, given_item, check_item, record_of}
 use Rattle.record.specs.Write.{givens_of, moves_of, asked_of, parts_of}
-use Rattle.record.specs.Code.Laying.{given_bytes, givens_bytes, moves_bytes, checks_bytes}
+use Rattle.record.specs.Code.Laying.{given_bytes, givens_bytes, moves_bytes, move_in, check_in, bytes_to}
 use Rattle.record.proofs.Lengths.{length_moves, record_joined, record_length}
 
 -- ---- laying
@@ -72,54 +71,63 @@ module _ (out₀ : List ℕ) (start : ℕ) (all out : List ℕ) (at : ℕ) (left
 
 -- ---- items of a walk
 
--- what is left of the items of f's values at the numbers from i up to e, which is not reached
-unfoldable pub items_left : {A : Type 0} → (A → Item) → (ℕ → A) → ℕ → ℕ → List ℕ
-items_left g f e i = encode_all (map g (listed f (e - i) i))
+-- what is left of the items of a function's values at the numbers from i up to e, which is not reached
+unfoldable pub items_left : (ℕ → Item) → ℕ → ℕ → List ℕ
+items_left items e i = encode_all (listed items (e - i) i)
 
-module _ {A : Type 0} (g : A → Item) (f : ℕ → A) (e i : ℕ) where
-  pub items_turn : i < e → items_left g f e i ≡ encode (g (f i)) ++ items_left g f e (i + 1)
+module _ (items : ℕ → Item) (e i : ℕ) where
+  pub items_turn : i < e → items_left items e i ≡ encode (items i) ++ items_left items e (i + 1)
   unfolding items_left listed encode_all
   items_turn h =
-      ap (λ (n : ℕ). encode_all (map g (listed f n i))) (left_one e i h)
-      ∙ ap (λ (k : ℕ). encode (g (f i)) ++ encode_all (map g (listed f (e - (i + 1)) k))) (sym (add-one i))
+      ap (λ (n : ℕ). encode_all (listed items n i)) (left_one e i h)
+      ∙ ap (λ (k : ℕ). encode (items i) ++ encode_all (listed items (e - (i + 1)) k)) (sym (add-one i))
 
-  pub items_none : e ≤ i → items_left g f e i ≡ []
+  pub items_none : e ≤ i → items_left items e i ≡ []
   unfolding items_left listed encode_all
-  items_none h = ap (λ (n : ℕ). encode_all (map g (listed f n i))) (sub-eq-zero_of_le h)
+  items_none h = ap (λ (n : ℕ). encode_all (listed items n i)) (sub-eq-zero_of_le h)
 
--- a turn that lays the item of f's value at i, which the code holds as x; and the end
-module _ {A : Type 0} (g : A → Item) (f : ℕ → A) (e : ℕ) (out₀ : List ℕ) (start : ℕ) (all out : List ℕ) (at i : ℕ)
-    (l : Laying out₀ start all out at (items_left g f e i)) where
-  pub item_room : (x : A) → i < e → x ≡ f i → at + length (encode (g x)) ≤ length out
+-- a turn that lays the item at i, which the code holds as x; and the end
+module _ (items : ℕ → Item) (e : ℕ) (out₀ : List ℕ) (start : ℕ) (all out : List ℕ) (at i : ℕ)
+    (l : Laying out₀ start all out at (items_left items e i)) where
+  pub item_room : (x : Item) → i < e → x ≡ items i → at + length (encode x) ≤ length out
   item_room x h q =
-      laying_room _ _ _ _ _ _ l (encode (g x)) (items_left g f e (i + 1))
-      (items_turn g f e i h ∙ ap (λ (y : A). encode (g y) ++ items_left g f e (i + 1)) (sym q))
+      laying_room _ _ _ _ _ _ l (encode x) (items_left items e (i + 1))
+      (items_turn items e i h ∙ ap (λ (y : Item). encode y ++ items_left items e (i + 1)) (sym q))
 
-  pub item_laid : (x : A) (next : List ℕ) (on : ℕ) → i < e → x ≡ f i → on ≡ at + length (encode (g x)) → next ≡ over out at (encode (g x))
-      → Laying out₀ start all next on (items_left g f e (i + 1))
+  pub item_laid : (x : Item) (next : List ℕ) (on : ℕ) → i < e → x ≡ items i → on ≡ at + length (encode x) → next ≡ over out at (encode x)
+      → Laying out₀ start all next on (items_left items e (i + 1))
   item_laid x next on h q =
-      laying_more _ _ _ _ _ _ l (encode (g x)) (items_left g f e (i + 1)) next on
-      (items_turn g f e i h ∙ ap (λ (y : A). encode (g y) ++ items_left g f e (i + 1)) (sym q))
+      laying_more _ _ _ _ _ _ l (encode x) (items_left items e (i + 1)) next on
+      (items_turn items e i h ∙ ap (λ (y : Item). encode y ++ items_left items e (i + 1)) (sym q))
 
   pub items_laid : e ≤ i → (bytes : List ℕ) → bytes ≡ all → (at ≡ start + length bytes) × (out ≡ over out₀ start bytes)
   items_laid h bytes q =
-      let end = laying_end _ _ _ _ _ _ l (items_none g f e i h) in
+      let end = laying_end _ _ _ _ _ _ l (items_none items e i h) in
       (omega (arith, end.0, ap length q), end.1 ∙ ap (over out₀ start) (sym q))
 
 back_one : (n : ℕ) → n + 1 - 1 ≡ n
 back_one n = omega arith
 
+pub all_left : (items : ℕ → Item) (n : ℕ) → bytes_to items n ≡ items_left items (n + 1) 1
+unfolding bytes_to items_left
+all_left items n = ap (λ (k : ℕ). encode_all (listed items k 1)) (sym (back_one n))
+
 -- moves and checks
-abbrev pub move_in : List ℕ → ℕ → Move
-move_in journal n = move_of (slot_at journal n)
+map_listed : {A B : Type 0} (g : A → B) (f : ℕ → A) (n i : ℕ) → map g (listed f n i) ≡ listed (λ (k : ℕ). g (f k)) n i
+unfolding listed
+map_listed g f zero i = refl
+map_listed g f (suc n) i = ap (λ l. g (f i) ∷ l) (map_listed g f n (suc i))
 
-pub moves_left : (journal : List ℕ) (made : ℕ) → moves_bytes journal made ≡ items_left Played (move_in journal) (made + 1) 1
-unfolding moves_bytes moves_of items_left
-moves_left journal made = ap (λ (n : ℕ). encode_all (map Played (listed (move_in journal) n 1))) (sym (back_one made))
+pub moves_by : (journal : List ℕ) (made : ℕ) → moves_bytes journal made ≡ bytes_to (move_in journal) made
+unfolding moves_bytes moves_of bytes_to
+moves_by journal made = ap encode_all (map_listed Played (λ (n : ℕ). move_of (slot_at journal n)) made 1)
 
-pub checks_left : (checks : List ℕ) (n : ℕ) → checks_bytes checks n ≡ items_left check_item (asked_at checks) (n + 1) 1
-unfolding checks_bytes asked_of items_left
-checks_left checks n = ap (λ (k : ℕ). encode_all (map check_item (listed (asked_at checks) k 1))) (sym (back_one n))
+pub checks_by : (checks : List ℕ) (n : ℕ) → encode_all (map check_item (asked_of checks n)) ≡ bytes_to (check_in checks) n
+unfolding asked_of bytes_to
+checks_by checks n = ap encode_all (map_listed check_item (asked_at checks) n 1)
+
+pub moves_left : (journal : List ℕ) (made : ℕ) → moves_bytes journal made ≡ items_left (move_in journal) (made + 1) 1
+moves_left journal made = moves_by journal made ∙ all_left (move_in journal) made
 
 -- ---- givens
 
@@ -166,14 +174,16 @@ module _ (b : Board) (journal checks out : List ℕ) (h : length (record_of (par
   count_bytes = 6 ∷ low (b.made - b.standing) ∷ second (b.made - b.standing) ∷ []
 
   abbrev of_checks : List ℕ
-  of_checks = checks_bytes checks b.checks
+  of_checks = bytes_to (check_in checks) b.checks
 
   abbrev of_moves : List ℕ
-  of_moves = moves_bytes journal b.made
+  of_moves = bytes_to (move_in journal) b.made
 
   groups : record_of (parts_of b journal checks) ≡ givens_bytes b ++ (of_moves ++ (count_bytes ++ of_checks))
-  unfolding parts_of givens_bytes moves_bytes checks_bytes encode
-  groups = record_joined (parts_of b journal checks)
+  unfolding parts_of givens_bytes moves_bytes encode
+  groups =
+      record_joined (parts_of b journal checks)
+      ∙ (λ j. givens_bytes b ++ (moves_by journal b.made j ++ (count_bytes ++ checks_by checks b.checks j)))
 
   laying_0 : Laying out 0 (record_of (parts_of b journal checks)) out 0 (record_of (parts_of b journal checks))
   laying_0 = laying_start out 0 (record_of (parts_of b journal checks)) (omega arith)

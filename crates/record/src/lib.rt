@@ -84,7 +84,7 @@ pub struct Scanned {
     pub moves: usize,
     pub undone: usize,
     pub checks: usize,
-    // a check's standing is above the limit
+    // a check's standing is above the limit; kept to the end of the scan, since 17 of a later item goes before 18
     pub late: bool,
 }
 

@@ -1,17 +1,18 @@
 // Writing a record: 1, 2 and 14, the record's length against the output's
 // (34), then its items laid into the output one after the other.
-ghost use Rattle.std.specs.Prelude.{◌≡◌, ◌+◌, ◌*◌, ◌≤◌, length, IfOk, OnErr};
+ghost use Rattle.std.specs.Prelude.{◌≡◌, ℕ, List, ◌+◌, ◌*◌, ◌≤◌, length, IfOk, OnErr};
 ghost use Rattle.puzzle.specs.Givens.{is_given};
 ghost use Rattle.sudoku.specs.Tests.{count as count_of};
 ghost use Rattle.puzzle.specs.Refusals.{first_refused, told};
 ghost use Rattle.journal.specs.Limits.{max_moves, max_checks};
 ghost use Rattle.journal.specs.Bytes.{over};
 ghost use Rattle.play.specs.Unsound.{unsound_refusal};
+ghost use Rattle.record.specs.declared.Item.{Item};
 ghost use Rattle.record.specs.declared.Item.TheVariants.{Played};
 ghost use Rattle.record.specs.Items.{encode, record_of};
 ghost use Rattle.record.specs.Write.{parts_of, unsound_check, unwritable, write_refusal, write_of};
 ghost use Rattle.record.specs.Errors.{write_error_refusal};
-ghost use Rattle.record.specs.Code.Laying.{given_bytes, givens_bytes, moves_bytes, checks_bytes};
+ghost use Rattle.record.specs.Code.Laying.{given_bytes, givens_bytes, moves_bytes, move_in, check_in, bytes_to};
 
 use crate::error::WriteError;
 use crate::{CHECK_ITEM, ERASE_ITEM, GIVEN_ITEM, Item, MOVE_ITEM, UNDONE_ITEM, Written};
@@ -20,7 +21,8 @@ use board::value::lent;
 use journal::checks::{check_at, is_sound_check};
 use journal::slots::{is_given, move_of, slot_at};
 use journal::{
-    CHECK, CHECK_MEMORY, ERASE, GIVEN, JOURNAL_BYTES, Move, PLACE, STRIKE_MARK, UNDONE, WRITE_MARK,
+    Asked, CHECK, CHECK_MEMORY, ERASE, GIVEN, JOURNAL_BYTES, Move, PLACE, STRIKE_MARK, UNDONE,
+    WRITE_MARK,
 };
 use play::sound::{Unsound, sound_slots};
 use puzzle::answer::accepted;
@@ -117,7 +119,8 @@ fn lay_given(board: &Board, cell: usize, output: &mut [u8], at: usize) -> usize
     )
 }
 
-// The items of the givens, in the order of their cells.
+// The items of the givens, in the order of their cells. A cell without a given has no item, so they are not `Stored`;
+// crate lines walks the cells so too, over triples: one function of both would be a trait around this loop.
 fn lay_givens(board: &Board, output: &mut [u8]) -> usize
     requires { length (givens_bytes board.now) ≤ length output.old }
     ensures { (result ≡ length (givens_bytes board.now)) × (output.new ≡ over output.old 0 (givens_bytes board.now)) }
@@ -125,6 +128,42 @@ fn lay_givens(board: &Board, output: &mut [u8]) -> usize
     let mut at = 0;
     for cell in 1..=CELLS {
         at = lay_given(board, cell, output, at);
+    }
+    at
+}
+
+// What lent memory holds one behind the other, numbered from 1, each of which is an item of the record.
+trait Stored {
+    ghost item_in: { List ℕ → ℕ → Item };
+
+    fn item_at(memory: &[u8], n: usize) -> Item
+        ensures { result ≡ item_in memory.now n };
+}
+
+impl Stored for Move {
+    ghost item_in = { move_in };
+
+    fn item_at(journal: &[u8], n: usize) -> Item {
+        Item::Played(move_of(slot_at(journal, n)))
+    }
+}
+
+impl Stored for Asked {
+    ghost item_in = { check_in };
+
+    fn item_at(checks: &[u8], n: usize) -> Item {
+        check_at(checks, n).into()
+    }
+}
+
+// The items 1 to `count` of the memory.
+fn lay_stored<S: Stored>(memory: &[u8], count: usize, output: &mut [u8], start: usize) -> usize
+    requires { start + length (bytes_to (S.item_in memory.now) count) ≤ length output.old }
+    ensures { (result ≡ start + length (bytes_to (S.item_in memory.now) count)) × (output.new ≡ over output.old start (bytes_to (S.item_in memory.now) count)) }
+{
+    let mut at = start;
+    for n in 1..=count {
+        at = lay_item(S::item_at(memory, n), output, at);
     }
     at
 }
@@ -191,40 +230,16 @@ impl<'a> Kept<'a> {
             + CHECK_ITEM * self.board.checks
     }
 
-    // The items of slots 1 to made.
-    fn lay_moves(&self, output: &mut [u8], start: usize) -> usize
-        requires { start + length (moves_bytes self.now.journal.now self.now.board.now.made) ≤ length output.old }
-        ensures { (result ≡ start + length (moves_bytes self.now.journal.now self.now.board.now.made)) × (output.new ≡ over output.old start (moves_bytes self.now.journal.now self.now.board.now.made)) }
-    {
-        let mut at = start;
-        for n in 1..=self.board.made {
-            at = lay_item(Item::Played(move_of(slot_at(self.journal, n))), output, at);
-        }
-        at
-    }
-
-    // The items of the stored checks.
-    fn lay_checks(&self, output: &mut [u8], start: usize) -> usize
-        requires { start + length (checks_bytes self.now.checks.now self.now.board.now.checks) ≤ length output.old }
-        ensures { (result ≡ start + length (checks_bytes self.now.checks.now self.now.board.now.checks)) × (output.new ≡ over output.old start (checks_bytes self.now.checks.now self.now.board.now.checks)) }
-    {
-        let mut at = start;
-        for n in 1..=self.board.checks {
-            at = lay_item(check_at(self.checks, n).into(), output, at);
-        }
-        at
-    }
-
     // The whole record: givens, moves, the undone count, checks.
     fn lay(&self, output: &mut [u8])
         requires { length (record_of (parts_of self.now.board.now self.now.journal.now self.now.checks.now)) ≤ length output.old }
         ensures { output.new ≡ over output.old 0 (record_of (parts_of self.now.board.now self.now.journal.now self.now.checks.now)) }
     {
         let moves = lay_givens(self.board, output);
-        let count = self.lay_moves(output, moves);
+        let count = lay_stored::<Move>(self.journal, self.board.made, output, moves);
         let undone = self.board.made - self.board.standing;
         let asked = lay_item(Item::Undone(undone), output, count);
-        self.lay_checks(output, asked);
+        lay_stored::<Asked>(self.checks, self.board.checks, output, asked);
     }
 }
 

@@ -10,8 +10,8 @@ lay_givens-moves-requires c =
     let s = c.args.self.now in
     givens_room_lem s.board.now s.journal.now s.checks.now c.args.output.now c.requires
 
-pub lay_moves-count-requires : goal.lay_moves-count-requires
-lay_moves-count-requires c =
+pub lay_stored-count-requires : goal.lay_stored-count-requires
+lay_stored-count-requires c =
     let s = c.args.self.now in
     let givens = c.lay_givens-moves in
     moves_room s.board.now s.journal.now s.checks.now c.args.output.now c.requires _ givens.result givens.ensures.0 givens.ensures.1
@@ -21,15 +21,15 @@ unfolding encode
 lay_item-asked-requires c =
     let s = c.args.self.now in
     let givens = c.lay_givens-moves in
-    let moves = c.lay_moves-count in
+    let moves = c.lay_stored-count in
     count_room s.board.now s.journal.now s.checks.now c.args.output.now c.requires _ givens.result givens.ensures.0 givens.ensures.1 _ moves.result moves.ensures.0 moves.ensures.1
 
-pub lay_checks-requires : goal.lay_checks-requires
+pub lay_stored-requires : goal.lay_stored-requires
 unfolding encode low second
-lay_checks-requires c =
+lay_stored-requires c =
     let s = c.args.self.now in
     let givens = c.lay_givens-moves in
-    let moves = c.lay_moves-count in
+    let moves = c.lay_stored-count in
     let undone = c.lay_item-asked.ensures in
     checks_room s.board.now s.journal.now s.checks.now c.args.output.now c.requires _ givens.result givens.ensures.0 givens.ensures.1 _ moves.result moves.ensures.0 moves.ensures.1 _ c.lay_item-asked.result undone.0 undone.1
 
@@ -38,6 +38,6 @@ unfolding encode low second
 returns c =
     let s = c.args.self.now in
     let givens = c.lay_givens-moves in
-    let moves = c.lay_moves-count in
+    let moves = c.lay_stored-count in
     let undone = c.lay_item-asked.ensures in
-    record_laid s.board.now s.journal.now s.checks.now c.args.output.now c.requires _ givens.result givens.ensures.0 givens.ensures.1 _ moves.result moves.ensures.0 moves.ensures.1 _ c.lay_item-asked.result undone.0 undone.1 _ c.lay_checks.ensures.1
+    record_laid s.board.now s.journal.now s.checks.now c.args.output.now c.requires _ givens.result givens.ensures.0 givens.ensures.1 _ moves.result moves.ensures.0 moves.ensures.1 _ c.lay_item-asked.result undone.0 undone.1 _ c.lay_stored.ensures.1
