@@ -4,7 +4,7 @@ use mathlib.Core.Path.{◌≡◌, sym, ap, ◌∙◌}
 use mathlib.Core.Bool.{◌&&◌}
 use Rattle.std.proofs.lemmas.Result.{err_from_is_err_and}
 use Rattle.sudoku.specs.Grid.{cell_of}
-use Rattle.puzzle.specs.Refusals.{accepted}
+use Rattle.puzzle.specs.Refusals.{accepted, refusal}
 use Rattle.journal.specs.State.{State}
 use Rattle.journal.specs.Slots.{slot_at, is_sound, digit_change}
 use Rattle.board.specs.Board.{state_of, counts_of, board_of, moved}
@@ -26,7 +26,9 @@ returns-then-not-is_sound g c =
     let b = c.args.before in
     let slot = slot_at c.args.journal.now (w.slot (counts_of b)) in
     let asks : c.is_sound.result ≡ is_sound b.given slot = rw (c.is_sound.ensures, c.slot_at-slot.ensures, c.in_ok-n.ensures.slot, c.requires) in
-    rw (c.from.ensures, c.in_ok-n.ensures.slot, c.requires) (unfit w g.met.D.Direction.laws b c.args.journal.now c.in_ok-n.ensures.number (unsound_unfit w g.met.D.Direction.laws (state_of b) slot (sym asks ∙ c.if-not-is_sound.true)))
+    rw (c.from.ensures, c.requires)
+    (ap (λ n. answer (refusal 14 n 0) b) c.in_ok-n.ensures.slot
+    ∙ unfit w g.met.D.Direction.laws b c.args.journal.now c.in_ok-n.ensures.number (unsound_unfit w g.met.D.Direction.laws (state_of b) slot (sym asks ∙ c.if-not-is_sound.true)))
 
 pub returns-then-not-digit_stood-marks_stood : goal.returns-then-not-digit_stood-marks_stood
 unfolding state_of moved board_of
