@@ -122,7 +122,7 @@ fn conflict_at(rows: [[u8; 9]; 9], cell: usize) -> Result<(), WellPosedError>
 fn first_conflict(rows: [[u8; 9]; 9]) -> Result<(), WellPosedError>
     ensures { told well_posed_refusal result ≡ first_refused (solution_conflict (flat_of rows)) 81 1 }
 {
-    for cell in 1..CELLS + 1 {
+    for cell in 1..=CELLS {
         conflict_at(rows, cell)?;
     }
     Ok(())
