@@ -47,8 +47,8 @@ pub fn after(board: Board, journal: &[u8], k: usize) -> Board
     ensures { result ≡ board_after board journal.now k }
 {
     let mut stood = opening(board);
-    for i in 0..k {
-        perform_again(&mut stood, slot_at(journal, i + 1));
+    for n in 1..=k {
+        perform_again(&mut stood, slot_at(journal, n));
     }
     stood
 }

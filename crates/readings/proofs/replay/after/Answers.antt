@@ -1,13 +1,14 @@
--- `readings::replay::after` meets its contract: what is left to apply from slot i + 1 on leads to the same state.
+-- `readings::replay::after` meets its contract: what is left to apply from slot n on leads to the same state.
 -- Assumes nothing.
-use Prim.Native.Nat.{ℕ, ◌+◌, ◌-◌}
+use Prim.Native.Nat.{ℕ, ◌+◌, ◌-◌, ◌≤◌, ◌<◌}
 use mathlib.Core.Path.{◌≡◌, refl, sym, ap, ◌∙◌}
+use mathlib.Core.List.{List}
 use native.Mathlib.Omega.{arith}
 use Rattle.sudoku.specs.Tests.{run}
 use Rattle.sudoku.proofs.Walks.{run_more, run_all}
 use Rattle.journal.specs.declared.Slot.{Slot}
 use Rattle.journal.specs.State.{State, perform_again}
-use Rattle.journal.specs.Slots.{move_of, slot_at}
+use Rattle.journal.specs.Slots.{move_of}
 use Rattle.board.specs.declared.Board.{Board}
 use Rattle.board.specs.Board.{state_of, counts_of, board_of, moved}
 use Rattle.readings.specs.Reading.{opening_of, opening_board, apply_slot, state_after, board_after}
@@ -23,38 +24,67 @@ module _ (b : Board) where
   unfolding opening_board counts_of board_of moved
   rest_stays s = refl
 
-pub loop-i-init : goal.loop-i-init
+-- the walk from slot n on: the rest of the board stays, and what is left leads to the same state
+module _ (opened stood : Board) (journal : List ℕ) (k n : ℕ) (same : stood ≡ moved opened (state_of stood) (counts_of opened))
+    (left : run (apply_slot journal) (state_of opened) k 1 ≡ run (apply_slot journal) (state_of stood) (k + 1 - n) n) where
+  -- a turn
+  turned : (next : Board) → n < k + 1 → next ≡ moved stood (apply_slot journal (state_of stood) n) (counts_of stood)
+      → (next ≡ moved opened (state_of next) (counts_of opened))
+      × (run (apply_slot journal) (state_of opened) k 1 ≡ run (apply_slot journal) (state_of next) (k + 1 - (n + 1)) (n + 1))
+  unfolding state_of counts_of board_of moved
+  turned next h done =
+      let applied = ap state_of done in (
+        done
+            ∙ ap (λ (b : Board). moved b (apply_slot journal (state_of stood) n) (counts_of b)) same
+            ∙ ap (λ (t : State). moved opened t (counts_of opened)) (sym applied),
+        left
+            ∙ run_more (apply_slot journal) (state_of stood) (k + 1) n h
+            ∙ ap (λ (t : State). run (apply_slot journal) t (k + 1 - (n + 1)) (n + 1)) (sym applied),
+      )
+
+  -- nothing is left
+  ended : (b : Board) → opened ≡ opening_board b → k + 1 ≤ n → stood ≡ board_after b journal k
+  unfolding board_after state_after
+  ended b opening h =
+      let all : state_of stood ≡ state_after b journal k =
+      sym
+      (ap (λ (t : State). run (apply_slot journal) t k 1) (sym (ap state_of opening ∙ opened_state b))
+      ∙ left
+      ∙ run_all (apply_slot journal) (state_of stood) (k + 1) n h) in
+      same
+      ∙ ap (λ (t : State). moved opened t (counts_of opened)) all
+      ∙ ap (λ (x : Board). moved x (state_after b journal k) (counts_of x)) opening
+      ∙ rest_stays b (state_after b journal k)
+
+pub loop-n-init : goal.loop-n-init
 unfolding state_of counts_of board_of moved
-loop-i-init c =
+loop-n-init c =
     let a = c.args in
     (refl, ap (λ (n : ℕ). run (apply_slot a.journal.now) (state_of c.opening-stood.result) n 1) {x = a.k} {y = a.k + 1 - 1} (omega arith))
 
-pub loop-i-preserved : goal.loop-i-preserved
-unfolding apply_slot state_of counts_of board_of moved
-loop-i-preserved c =
+-- the move of slot n, gone over again
+pub loop-n-preserved : goal.loop-n-preserved
+unfolding apply_slot
+loop-n-preserved c =
     let a = c.args in
-    let turn = c.loop-i in
+    let turn = c.loop-n in
     let s = state_of turn.stood in
-    let done = c.perform_again.ensures ∙ ap (λ (x : Slot). moved turn.stood (perform_again s (move_of x) x.struck) (counts_of turn.stood)) c.slot_at.ensures in
-    let applied = ap state_of done in (
-      done ∙ ap (λ (b : Board). moved b (perform_again s (move_of (slot_at a.journal.now (turn.i + 1))) (slot_at a.journal.now (turn.i + 1)).struck) (counts_of b)) turn.invariant.0 ∙ ap (λ (t : State). moved c.opening-stood.result t (counts_of c.opening-stood.result)) (sym applied),
-      turn.invariant.1
-          ∙ run_more (apply_slot a.journal.now) s (a.k + 1) (turn.i + 1) (omega (arith, c.loop-i-test.true))
-          ∙ ap (λ (t : State). run (apply_slot a.journal.now) t (a.k + 1 - (turn.i + 1 + 1)) (turn.i + 1 + 1)) (sym applied),
-    )
+    turned c.opening-stood.result turn.stood a.journal.now a.k turn.n turn.invariant.0 turn.invariant.1 _ (omega arith)
+    (c.perform_again.ensures ∙ ap (λ (x : Slot). moved turn.stood (perform_again s (move_of x) x.struck) (counts_of turn.stood)) c.slot_at.ensures)
 
+-- no slot, and after the last one
 pub returns : goal.returns
-unfolding board_after state_after
 returns c =
     let a = c.args in
-    let turn = c.loop-i in
-    let opened = c.opening-stood in
-    let stood : state_of turn.stood ≡ state_after a.board a.journal.now a.k =
-    sym
-    (ap (λ (t : State). run (apply_slot a.journal.now) t a.k 1) (sym (ap state_of opened.ensures ∙ opened_state a.board))
-    ∙ turn.invariant.1
-    ∙ run_all (apply_slot a.journal.now) (state_of turn.stood) (a.k + 1) (turn.i + 1) (omega (arith, c.loop-i-test.false))) in
-    turn.invariant.0
-    ∙ ap (λ (t : State). moved opened.result t (counts_of opened.result)) stood
-    ∙ ap (λ (b : Board). moved b (state_after a.board a.journal.now a.k) (counts_of b)) opened.ensures
-    ∙ rest_stays a.board (state_after a.board a.journal.now a.k)
+    let turn = c.loop-n in
+    ended c.opening-stood.result turn.stood a.journal.now a.k turn.n turn.invariant.0 turn.invariant.1 a.board c.opening-stood.ensures (omega arith)
+
+pub returns-2 : goal.returns-2
+unfolding apply_slot
+returns-2 c =
+    let a = c.args in
+    let turn = c.loop-n in
+    let s = state_of turn.stood in
+    let last = turned c.opening-stood.result turn.stood a.journal.now a.k turn.n turn.invariant.0 turn.invariant.1 _ (omega arith)
+    (c.perform_again.ensures ∙ ap (λ (x : Slot). moved turn.stood (perform_again s (move_of x) x.struck) (counts_of turn.stood)) c.slot_at.ensures) in
+    ended c.opening-stood.result _ a.journal.now a.k (turn.n + 1) last.0 last.1 a.board c.opening-stood.ensures (omega arith)

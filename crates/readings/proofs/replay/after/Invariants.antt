@@ -1,4 +1,4 @@
--- `readings::replay::after` meets its contract: what is left to apply from slot i + 1 on leads to the same state.
+-- `readings::replay::after` meets its contract: what is left to apply from slot n on leads to the same state.
 -- Assumes nothing.
 use Prim.Native.Nat.{◌+◌, ◌-◌}
 use mathlib.Core.Path.{◌≡◌}
@@ -8,7 +8,7 @@ use Rattle.readings.specs.Reading.{apply_slot}
 use Rattle.readings.proofs.replay.after.Given as goal
 
 -- the givens, the solution, the counts and the checks stay, and so the board is the opening one with another state
-abbrev pub invariant-loop-i : goal.invariant-loop-i
-invariant-loop-i l =
+abbrev pub invariant-loop-n : goal.invariant-loop-n
+invariant-loop-n l =
     (l.stood ≡ moved l.initial.stood (state_of l.stood) (counts_of l.initial.stood))
-    × (run (apply_slot l.journal) (state_of l.initial.stood) l.k 1 ≡ run (apply_slot l.journal) (state_of l.stood) (l.k + 1 - (l.i + 1)) (l.i + 1))
+    × (run (apply_slot l.journal) (state_of l.initial.stood) l.k 1 ≡ run (apply_slot l.journal) (state_of l.stood) (l.k + 1 - l.n) l.n)
