@@ -153,6 +153,7 @@ fn show_line(board: Board) {
     }
 }
 
+// A command's method takes the command whole: its contract says what that command leaves of the game.
 impl Game {
     // The board after a call: drawn, or with the refusal's words.
     fn settle(&mut self, answer: Answer)

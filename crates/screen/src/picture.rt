@@ -74,10 +74,9 @@ fn spot_of(i: u8, j: u8) -> u8
     requires { (1 ≤ i) × (i < 4) }
     ensures { result ≡ spot_of i j }
 {
-    if 2 <= j && j <= 4 {
-        3 * (i - 1) + (j - 1)
-    } else {
-        0
+    match j {
+        2..=4 => 3 * (i - 1) + (j - 1),
+        _ => 0,
     }
 }
 

@@ -82,7 +82,7 @@ impl Console {
     }
 }
 
-// The name of a file that a word of the command line is; empty where there is none.
+// The name of a file that a word of the command line is; empty where there is none, as the words of a command are.
 fn name<'a>(rt: &HostRuntime, at: Option<usize>, memory: &'a mut [u8; PATH_MAX]) -> &'a [u8] {
     match at {
         Some(i) => word(rt, i, memory).unwrap_or(&[]),
