@@ -26,7 +26,7 @@ pub grid_is_whole : (text : List ℕ) → result_ok (grid_of text) ≡ whole_cel
 unfolding grid_of judged whole_cells is_whole
 grid_is_whole text =
     let s = cells_of text in
-    by_judging (eqb s.wrong 0) (ltb s.count 81) (eqb s.count 81) s.cells (Wrong s.wrong) (Few s.count) Many
+    by_judging (eqb s.wrong 0) (ltb s.count 81) (eqb s.count 81) s.cells (Wrong s.wrong s.count) (Few s.count) Many
     (λ l e. let a = ltb-true s.count 81 l in let b = eqb-true s.count 81 e in omega arith)
 
 some_where : {A : Type 0} (t : Bool) (x : A) → is_some (pick t (Some x) None) ≡ t

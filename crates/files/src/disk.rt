@@ -110,7 +110,7 @@ pub fn read<'a, R: Files>(rt: &R, path: &[u8], buffer: &'a mut [u8; FILE_BYTES])
 fn complain(path: &[u8], error: CellsError) {
     let path = Printable(path);
     match error {
-        CellsError::Wrong { character } => show(format_args!(
+        CellsError::Wrong { character, .. } => show(format_args!(
             "{path}: character {character} is no cell: 1 to 9, or a point or 0 for an empty one\n"
         )),
         CellsError::Many => show(format_args!("{path}: it has more than 81 cells\n")),

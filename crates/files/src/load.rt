@@ -55,12 +55,12 @@ impl Memory {
     }
 
     // What was opened in memory apart takes the place of this memory, where all went well.
-    #[tactic(auto, unfolding(crate::specs::Load::takes_place, crate::specs::Load::stays, puzzle::specs::Refusals::is_accepted, sudoku::specs::Tests::pick))]
+    #[tactic(auto, unfolding(crate::specs::Load::takes_place, crate::specs::Load::stays, puzzle::specs::Refusals::outcome, puzzle::specs::Refusals::is_accepted, sudoku::specs::Tests::pick))]
     fn take_up(&mut self, answer: Answer, own: &Memory) -> Option<Board>
         ensures { left result self.new.journal self.new.checks ≡ takes_place (record { answer = answer; journal = own.now.journal; checks = own.now.checks }) self.old.journal self.old.checks }
     {
-        if answer.refusal.number != 0 {
-            explain(answer.refusal);
+        if let Err(refused) = answer.refusal.outcome() {
+            explain(refused);
             return None;
         }
         *self = *own;

@@ -54,7 +54,7 @@ module _ (text cells : List ℕ) (count i : ℕ) (leads : Leads text cells count
 -- ---- what was found, judged
 
 module _ (found : Cells) (cells : List ℕ) (count : ℕ) where
-  pub is_wrong : (i : ℕ) → found ≡ record { cells = cells; count = count; wrong = i + 1 } → Err (Wrong (i + 1)) ≡ judged found
+  pub is_wrong : (i : ℕ) → found ≡ record { cells = cells; count = count; wrong = i + 1 } → Err (Wrong (i + 1) count) ≡ judged found
   unfolding judged
   is_wrong i e = sym (ap judged e ∙ pick_false _ _ _ (ne_eqb (i + 1) 0 (λ z. omega arith)))
 

@@ -45,13 +45,13 @@ with_character s n byte =
 unfoldable pub cells_of : List ℕ → Cells
 cells_of text = run (λ s i. with_character s (i + 1) (get_or text i 0)) no_cells (length text) 0
 
--- the 81 cells of what was found in a text, or why it has not 81: by its first wrong character, counted from 1, or else
--- by how many there are
+-- the 81 cells of what was found in a text, or why it has not 81: by its first wrong character, counted from 1, with how
+-- many cells come before it, or else by how many there are
 unfoldable pub judged : Cells → Result (List ℕ) CellsError
 judged s =
     pick (eqb s.wrong 0)
     (pick (ltb s.count 81) (Err (Few s.count)) (pick (eqb s.count 81) (Ok s.cells) (Err Many)))
-    (Err (Wrong s.wrong))
+    (Err (Wrong s.wrong s.count))
 
 -- the 81 cells of a text, or why it has not 81
 unfoldable pub grid_of : List ℕ → Result (List ℕ) CellsError

@@ -42,7 +42,8 @@ fn read(text: &[u8]) -> ([u8; 81], Result<(), CellsError>)
             continue;
         }
         let Some(value) = value_of(*byte) else {
-            return (cells, Err(CellsError::Wrong { character: i + 1 }));
+            let character = i + 1;
+            return (cells, Err(CellsError::Wrong { character, count }));
         };
         count = put(&mut cells, count, value);
     }
