@@ -152,6 +152,7 @@ fn change_if<C: MarkChange>(notes: &mut [u16; 81], cell: usize, digit: u8, mask:
 
 // The mark `digit` changed at those of the cells whose bit is set in the mask, and
 // no others. Answered is whether the note of each of them was fit when its turn came.
+// The cells stand apart from notes, digit and mask: who has a mask of 0 asks for no peers.
 pub fn change_masked_in<C: MarkChange>(
     notes: &mut [u16; 81],
     digit: u8,

@@ -53,6 +53,7 @@ pub fn line_digits(line: &[u8]) -> Result<[u8; CELLS], LineError>
         return Err(LineError::NotALine);
     }
     let mut digits = [0u8; CELLS];
+    // by index: a wrong character is named by its place, and no heap is there to collect on
     for i in 0..CELLS {
         let Some(digit) = value_of(line[i]) else {
             return Err(LineError::OtherSort { character: i + 1 });
@@ -137,7 +138,7 @@ fn character(board: &Board, cell: usize) -> u8
     }
 }
 
-// The characters of the 81 cells.
+// The characters of the 81 cells. By index: a cell is a number, and the output is longer than a line may be.
 fn lay_line(board: &Board, output: &mut [u8])
     requires { (every (digit_value board.now.digits board.now.given) 81 1 ≡ true) × (line_bytes ≤ length output.old) }
     ensures { output.new ≡ over output.old 0 (line_of board.now) }

@@ -1,4 +1,5 @@
-// Every refusal in plain words, here and nowhere else. Numbers, places and inner numbers are the documents'.
+// Every refusal in plain words, here and nowhere else. Numbers, places and inner numbers are the documents': a call
+// answers the programs as it answers C (docs/DECISIONS.md, 47).
 use crate::{Count, Printable, is_printable, show};
 use puzzle::{Refusal, byte_at, index_of};
 use std::fmt;

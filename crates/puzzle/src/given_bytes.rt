@@ -65,7 +65,8 @@ impl<'a> GivenBytes<'a> {
         (1..self.count).all(|i| precedes(self.given(i - 1), self.given(i)))
     }
 
-    // The 81 cells with an entry of each given laid at its cell, in order, over zeros.
+    // The 81 cells with an entry of each given laid at its cell, in order, over zeros. Givens are read by number, since
+    // in a record's bytes each stands behind its kind byte.
     // What is off the grid counts as cell 1; no such given comes this far.
     fn laid<F: Fn(Given) -> u8>(self, entry: F) -> [u8; 81]
         requires { F.IsAlwaysCallable entry }

@@ -1,5 +1,5 @@
 // The reading of move k: what its slot holds, whether it is undone,
-// and the board as it stood after it. Refused by 1 2 14 35.
+// and the board as it stood after it. Refused by 1 2 14 35. Board, journal and k are what C hands over, one by one.
 ghost use Rattle.std.specs.Prelude.{◌≡◌};
 ghost use Rattle.puzzle.specs.Refusals.{told};
 ghost use Rattle.readings.specs.Errors.{reading_error_refusal};

@@ -1,5 +1,6 @@
 // Writing a record: 1, 2 and 14, the record's length against the output's
-// (34), then its items laid into the output one after the other.
+// (34), then its items laid into the output one after the other. Board, journal and checks come as C hands them over;
+// once they are tested they go together, as `Kept`.
 ghost use Rattle.std.specs.Prelude.{◌≡◌, ℕ, List, ◌+◌, ◌*◌, ◌≤◌, length, IfOk, OnErr};
 ghost use Rattle.puzzle.specs.Givens.{is_given};
 ghost use Rattle.sudoku.specs.Tests.{count as count_of};

@@ -129,6 +129,7 @@ fn check_test(board: &Board, cells: usize, index: usize, asked: Asked) -> Result
 }
 
 // The checks in order, the first of which stands at `start`, tested and stored with their verdicts.
+// How many there are is what the record counts, and not the length of its bytes.
 fn read_checks(
     bytes: &[u8],
     start: usize,

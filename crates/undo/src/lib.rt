@@ -72,6 +72,8 @@ fn go<D: Direction>(board: &mut Board, before: Board, journal: &[u8]) -> Result<
     Ok(())
 }
 
+// Undo and redo stay two functions of a few lines: one more call between them and `go` would copy the answer once more.
+
 // Takes back the latest standing move. Refused by 1 2 4 12 14.
 #[tactic(auto, unfolding(crate::specs::Code::Ways::call_of, crate::specs::Code::Ways::before_slot, crate::specs::Code::Ways::fits, board::specs::Board::counts_of, play::specs::Play::undo_of, play::specs::Play::undo_tests, play::specs::Play::undo_before, play::specs::Play::can_take_back, play::specs::Play::undone))]
 pub fn undo(board: Board, journal: &[u8]) -> Answer

@@ -17,6 +17,8 @@ use journal::{Move, Slot};
 use note::contains;
 use sudoku::{cell_of, peers};
 
+// This function and the next differ in a change and a negation: three lines each, and one over both is no plainer.
+
 // The mark written at a cell. Answered is whether it was lacking there.
 pub(crate) fn write_lacking(notes: &mut [u16; 81], cell: usize, digit: u8) -> bool
     ensures { (result ≡ not (contains_of (at notes.old cell) digit)) × (notes.new ≡ write_at notes.old cell digit) }

@@ -1,4 +1,5 @@
-// A stored session and a stored reopening, replayed.
+// A stored session and a stored reopening, replayed. What is stored, what is played and what is counted are three: each
+// function reads the first, plays on the second and counts in the third.
 use crate::block::Block;
 use crate::tally::{Tally, count};
 use board::Board;
@@ -109,8 +110,8 @@ fn line(givens: &[u8], board: Board, tally: &mut Tally) {
     let mut read = [0u8; GIVENS_ROOM];
     let written = pawdoku_write_line(board, &mut text);
     let back = pawdoku_read_line(&text, &mut read);
-    tally.expect(written.refusal.number == 0);
-    tally.expect(back.refusal.number == 0);
+    tally.expect(written.refusal.outcome().is_ok());
+    tally.expect(back.refusal.outcome().is_ok());
     tally.expect_all(front(&read, back.length), givens);
 }
 
@@ -119,7 +120,7 @@ fn reopened(record: &[u8], game: &Game, tally: &mut Tally) {
     let mut journal = [0u8; JOURNAL_BYTES];
     let mut checks = [0u8; CHECK_MEMORY];
     let answer = pawdoku_reopen(record, &game.board.solution, &mut journal, &mut checks);
-    tally.expect(answer.refusal.number == 0);
+    tally.expect(answer.refusal.outcome().is_ok());
     tally.expect(answer.board == game.board);
     let moves = SLOT_BYTES * game.board.made.min(MAX_MOVES);
     tally.expect_all(front(&journal, moves), front(&game.journal, moves));
@@ -133,7 +134,7 @@ fn record(block: &mut Block, game: &Game, tally: &mut Tally) {
     let stored = block.bytes(length);
     let mut output = [0u8; RECORD_BYTES];
     let written = pawdoku_write(game.board, &game.journal, &game.checks, &mut output);
-    tally.expect(written.refusal.number == 0);
+    tally.expect(written.refusal.outcome().is_ok());
     tally.expect_all(front(&output, written.length), stored);
     reopened(stored, game, tally);
 }
