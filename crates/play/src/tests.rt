@@ -1,5 +1,5 @@
-// Why a move is refused: 3 to 11, tested in their order, and the tests of the whole call. Row and column go to a test as
-// the move has them: a position has no type of its own, since any two bytes are one.
+// Why a move is refused: 3 to 11, tested in their order, and the tests of the whole call. Row and column go to a test
+// as the move has them: a position has no type of its own, since any two bytes are one.
 #![tactic(auto, unfolding(sudoku::specs::Tests::first, sudoku::specs::Tests::pick, sudoku::specs::Tests::both, board::specs::Board::state_of, journal::specs::State::digit_at, journal::specs::State::note_at, journal::specs::State::holds_players_digit, journal::specs::State::accepts_marks, crate::specs::Play::move_tests))]
 
 ghost use Rattle.std.specs.Prelude.{◌≡◌, not, [], ◌∷◌};

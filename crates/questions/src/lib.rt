@@ -1,7 +1,7 @@
 // The questions (board/cell.rs and parts of board.rs of the original): what a board
 // shows. Each tests the board value (number 2) itself; one for a cell tests its
-// position (3), the keypad's its key (8). Beside a refusal stand zeros and false. Each question is a call of C's: board,
-// row and column come one by one, and questions of one shape stay apart.
+// position (3), the keypad's its key (8). Beside a refusal stand zeros and false. Each question is a call of C's:
+// board, row and column come one by one, and questions of one shape stay apart.
 #![tactic(auto)]
 
 ghost use Rattle.std.specs.Prelude.{◌≡◌, not};

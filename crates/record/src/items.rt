@@ -10,8 +10,8 @@ use journal::slots::move_of;
 use journal::{Asked, Move, Slot};
 use puzzle::byte_at;
 
-// What the kind byte of an item decides; nothing where no item has the kind. A match on the byte with its ranges, as the
-// requirement has it (docs/CLAIMS.md, the forms that document 01 names).
+// What the kind byte of an item decides; nothing where no item has the kind. A match on the byte with its ranges, as
+// the requirement has it (docs/CLAIMS.md, the forms that document 01 names).
 #[tactic(auto, unfolding(crate::specs::Code::Counting::shape_of, crate::specs::Scan::by_kind, sudoku::specs::Tests::pick))]
 pub fn shape(kind: u8) -> Option<Shape>
     ensures { result ≡ shape_of kind }

@@ -5,8 +5,8 @@
 pub mod commands;
 pub mod grids;
 
-// Why a text is not 81 cells: its first character, counted from 1, that is neither a cell nor white space, with how many
-// cells come before it (82 where there are more than 81); or that it has more cells, or how many it has.
+// Why a text is not 81 cells: its first character, counted from 1, that is neither a cell nor white space, with how
+// many cells come before it (82 where there are more than 81); or that it has more cells, or how many it has.
 #[derive(Clone, Copy, PartialEq, Eq)]
 pub enum CellsError {
     Wrong { character: usize, count: usize },
