@@ -333,7 +333,7 @@ impl Game {
     fn show(&self, command: Command<'_>) {
         match command.verb {
             Verb::Move => self.read_move(command),
-            Verb::Unknown => show("no such command: help lists them\n"),
+            Verb::Unknown(_) => show("no such command: help lists them\n"),
             verb if command.words != 0 => want(verb),
             verb => self.show_alone(verb),
         }

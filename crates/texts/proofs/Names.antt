@@ -32,7 +32,7 @@ pub at_name : (f : List ℕ → Option Verb) (name known : List ℕ) (v : Option
 at_name f name known v h e = e ∙ sym (ap f (same_is name known h))
 
 -- what is found by one of two letters
-pub either_found : (one other : ℕ) → unwrap_or (option_or (found one) (found other)) Unknown ≡ verb_of_letter (pick (eqb one 0) other one)
+pub either_found : (one other : ℕ) → unwrap_or (option_or (found one) (found other)) (Unknown 0) ≡ verb_of_letter (pick (eqb one 0) other one)
 unfolding found pick verb_of_letter
 either_found one other =
     by_test (eqb one 0)
