@@ -157,7 +157,8 @@ fn show_line(board: Board) {
 impl Game {
     // The board after a call: drawn, or with the refusal's words.
     fn settle(&mut self, answer: Answer)
-        ensures { played self.new ≡ record (played self.old) { board = answer.board } }
+        ensures left { played self.new ≡ record (played self.old) { board = answer.board } }
+        ensures coloured { self.new.coloured ≡ self.old.coloured }
     {
         self.board = answer.board;
         match answer.refusal.outcome() {
@@ -169,7 +170,8 @@ impl Game {
     // One of the four moves.
     #[tactic(auto, unfolding(crate::specs::Perform::move_call, calls::specs::Encoded::run_one, calls::specs::Session::call_of, calls::specs::Session::called))]
     fn make(&mut self, command: Command<'_>)
-        ensures { played self.new ≡ (run_one (played self.old) (move_call (request command.entry))).left }
+        ensures left { played self.new ≡ (run_one (played self.old) (move_call (request command.entry))).left }
+        ensures coloured { self.new.coloured ≡ self.old.coloured }
     {
         let verb = command.verb;
         let Some(n) = numbers(command, move_words(verb)) else {
@@ -183,7 +185,8 @@ impl Game {
     // Undo and redo.
     #[tactic(auto, unfolding(crate::specs::Perform::undo_call, crate::specs::Perform::step_named, sudoku::specs::Tests::pick, calls::specs::Encoded::run_one, calls::specs::Session::call_of, calls::specs::Session::called))]
     fn step(&mut self, command: Command<'_>)
-        ensures { played self.new ≡ (run_one (played self.old) (undo_call (request command.entry))).left }
+        ensures left { played self.new ≡ (run_one (played self.old) (undo_call (request command.entry))).left }
+        ensures coloured { self.new.coloured ≡ self.old.coloured }
     {
         let verb = command.verb;
         if command.words != 0 {
@@ -202,7 +205,8 @@ impl Game {
     // A check of the player's digit.
     #[tactic(auto, unfolding(crate::specs::Perform::check_call, calls::specs::Encoded::run_one, calls::specs::Session::call_of, calls::specs::Session::called))]
     fn check(&mut self, command: Command<'_>)
-        ensures { played self.new ≡ (run_one (played self.old) (check_call (request command.entry))).left }
+        ensures left { played self.new ≡ (run_one (played self.old) (check_call (request command.entry))).left }
+        ensures coloured { self.new.coloured ≡ self.old.coloured }
     {
         let Some(n) = numbers(command, 2) else {
             want(command.verb);
@@ -283,7 +287,8 @@ impl Game {
 
     // The board that was opened, drawn; where none was, the one that is played stays.
     fn take_up(&mut self, loaded: Option<Board>)
-        ensures { played self.new ≡ record (played self.old) { board = unwrap_or loaded self.old.board } }
+        ensures left { played self.new ≡ record (played self.old) { board = unwrap_or loaded self.old.board } }
+        ensures coloured { self.new.coloured ≡ self.old.coloured }
     {
         if let Some(board) = loaded {
             self.board = board;
@@ -293,7 +298,8 @@ impl Game {
 
     // A file, and another for the solution where a second word names one.
     fn open<R: Files>(&mut self, rt: &R, command: Command<'_>)
-        ensures { Opens (request command.entry) (played self.old) (played self.new) }
+        ensures left { Opens (request command.entry) (played self.old) (played self.new) }
+        ensures coloured { self.new.coloured ≡ self.old.coloured }
     {
         if command.words < 1 || command.words > 2 {
             want(Verb::Open);
@@ -307,7 +313,8 @@ impl Game {
     // A mailed line and the line of its solution, as two words.
     #[tactic(auto, unfolding(crate::specs::Perform::puzzle_leaves, crate::specs::Perform::taken_up, sudoku::specs::Tests::pick))]
     fn open_line(&mut self, command: Command<'_>)
-        ensures { played self.new ≡ puzzle_leaves (request command.entry) (played self.old) }
+        ensures left { played self.new ≡ puzzle_leaves (request command.entry) (played self.old) }
+        ensures coloured { self.new.coloured ≡ self.old.coloured }
     {
         if command.words != 2 {
             want(Verb::Puzzle);
@@ -342,7 +349,8 @@ impl Game {
 
 // A command performed.
 pub fn perform<R: Files>(rt: &R, game: &mut Game, command: Command<'_>)
-    ensures { Performs (request command.entry) (played game.old) (played game.new) }
+    ensures performed { Performs (request command.entry) (played game.old) (played game.new) }
+    ensures coloured { game.new.coloured ≡ game.old.coloured }
 {
     match command.verb {
         Verb::Place | Verb::Mark | Verb::Strike | Verb::Erase => game.make(command),

@@ -8,9 +8,9 @@ use Rattle.files.specs.Disk.{unread}
 use Rattle.commands.specs.Perform.{taken_up, open_leaves}
 use Rattle.commands.proofs.Game.open.Goals as goal
 
-pub returns-then-command-lt1 : goal.returns-then-command-lt1
+pub returns-then-command-lt1-clause-left : goal.returns-then-command-lt1-clause-left
 unfolding open_leaves pick both
-returns-then-command-lt1 g c =
+returns-then-command-lt1-clause-left g c =
     let words = c.args.command.words in
     record {
       file = unread;
@@ -18,13 +18,13 @@ returns-then-command-lt1 g c =
       leaves = ⊎_elim (λ h. simp (lt-leb 1 words h)) (λ h. simp (le-leb 1 words h.0, lt-leb words 2 h.1)) c.then-command-lt1.either;
     }
 
-pub returns : goal.returns
+pub returns-clause-left : goal.returns-clause-left
 unfolding open_leaves taken_up pick both
-returns g c =
+returns-clause-left g c =
     let loaded = c.load-loaded.ensures in
     let board = c.args.self.now.board in
     record {
       file = loaded.file;
       answers = loaded.answers;
-      leaves = c.take_up.ensures ∙ (λ i. taken_up board (loaded.is i)) ∙ simp (le-leb _ _ c.if-command-lt1.false, le-leb _ _ c.if-command-gt2.false);
+      leaves = c.take_up.ensures.left ∙ (λ i. taken_up board (loaded.is i)) ∙ simp (le-leb _ _ c.if-command-lt1.false, le-leb _ _ c.if-command-gt2.false);
     }

@@ -8,44 +8,44 @@ use Rattle.commands.specs.Perform.{played, is_move, is_undo, is_check, is_open, 
 use Rattle.commands.proofs.Performing.{by_move, by_undo, by_check, by_open, by_puzzle, by_none, no_move, no_undo, no_check_lem, no_open, no_puzzle}
 use Rattle.commands.proofs.perform.perform.Goals as goal
 
-pub returns-in-Place : goal.returns-in-Place
+pub returns-in-Place-clause-performed : goal.returns-in-Place-clause-performed
 unfolding is_move is_open is_puzzle
-returns-in-Place g c =
+returns-in-Place-clause-performed g c =
     let move = by_move (request c.args.command) (played c.args.game.now) (played c.make.new.self) in
-    ⊎_elim (move verb.Place refl refl refl c.make.ensures)
-    (⊎_elim (move verb.Mark refl refl refl c.make.ensures)
-    (⊎_elim (move verb.Strike refl refl refl c.make.ensures) (move verb.Erase refl refl refl c.make.ensures)))
+    ⊎_elim (move verb.Place refl refl refl c.make.ensures.left)
+    (⊎_elim (move verb.Mark refl refl refl c.make.ensures.left)
+    (⊎_elim (move verb.Strike refl refl refl c.make.ensures.left) (move verb.Erase refl refl refl c.make.ensures.left)))
     c.in-Place.is
 
-pub returns-in-Undo : goal.returns-in-Undo
+pub returns-in-Undo-clause-performed : goal.returns-in-Undo-clause-performed
 unfolding is_move is_undo is_open is_puzzle
-returns-in-Undo g c =
+returns-in-Undo-clause-performed g c =
     let undo = by_undo (request c.args.command) (played c.args.game.now) (played c.step.new.self) in
-    ⊎_elim (undo verb.Undo refl refl refl refl c.step.ensures) (undo verb.Redo refl refl refl refl c.step.ensures) c.in-Undo.is
+    ⊎_elim (undo verb.Undo refl refl refl refl c.step.ensures.left) (undo verb.Redo refl refl refl refl c.step.ensures.left) c.in-Undo.is
 
-pub returns-in-Check : goal.returns-in-Check
-returns-in-Check g c = by_check (request c.args.command) (played c.args.game.now) (played c.check.new.self) c.check.ensures c.in-Check.is
+pub returns-in-Check-clause-performed : goal.returns-in-Check-clause-performed
+returns-in-Check-clause-performed g c = by_check (request c.args.command) (played c.args.game.now) (played c.check.new.self) c.check.ensures.left c.in-Check.is
 
-pub returns-in-Open : goal.returns-in-Open
-returns-in-Open g c = by_open (request c.args.command) (played c.args.game.now) (played c.open.new.self) c.open.ensures c.in-Open.is
+pub returns-in-Open-clause-performed : goal.returns-in-Open-clause-performed
+returns-in-Open-clause-performed g c = by_open (request c.args.command) (played c.args.game.now) (played c.open.new.self) c.open.ensures.left c.in-Open.is
 
-pub returns-in-Puzzle : goal.returns-in-Puzzle
-returns-in-Puzzle g c = by_puzzle (request c.args.command) (played c.args.game.now) (played c.open_line.new.self) c.open_line.ensures c.in-Puzzle.is
+pub returns-in-Puzzle-clause-performed : goal.returns-in-Puzzle-clause-performed
+returns-in-Puzzle-clause-performed g c = by_puzzle (request c.args.command) (played c.args.game.now) (played c.open_line.new.self) c.open_line.ensures.left c.in-Puzzle.is
 
-pub returns-in-Save : goal.returns-in-Save
+pub returns-in-Save-clause-performed : goal.returns-in-Save-clause-performed
 unfolding is_move is_undo is_check is_open is_puzzle
-returns-in-Save g c =
+returns-in-Save-clause-performed g c =
     let is = c.in-Save.is in
     by_none (request c.args.command) (played c.args.game.now) (ap is_move is) (ap is_undo is) (ap is_check is) (ap is_open is) (ap is_puzzle is)
 
-pub returns-in-NoWord : goal.returns-in-NoWord
+pub returns-in-NoWord-clause-performed : goal.returns-in-NoWord-clause-performed
 unfolding is_move is_undo is_check is_open is_puzzle
-returns-in-NoWord g c =
+returns-in-NoWord-clause-performed g c =
     let is = c.in-NoWord.is in
     by_none (request c.args.command) (played c.args.game.now) (ap is_move is) (ap is_undo is) (ap is_check is) (ap is_open is) (ap is_puzzle is)
 
-pub returns-in_default : goal.returns-in_default
-returns-in_default g c =
+pub returns-in_default-clause-performed : goal.returns-in_default-clause-performed
+returns-in_default-clause-performed g c =
     let none = c.in_default in
     let v = c.args.command.verb in
     by_none (request c.args.command) (played c.args.game.now)
