@@ -6,7 +6,7 @@ use mathlib.Core.Bool.{Bool, true, false, not}
 use mathlib.Core.List.{List, [], ◌∷◌, ◌++◌, append_assoc, append-nil}
 use native.Mathlib.Numerals.{add-one}
 use native.Mathlib.Omega.{arith}
-use Rattle.std.proofs.Common.{Option, Some, None, IfSome}
+use Rattle.std.proofs.Common.{Option, Some, None, MatchOption}
 use borrow.Author.Tests.{ltb-true, ne_eqb}
 use lib.Dec.{ltb, eqb}
 use lib.ListN.{length, take, length-take, drop_of_length-le}
@@ -47,6 +47,22 @@ pub bytes_more : (l : Line) (bytes : List ℕ) (byte : ℕ) → with_byte (with_
 unfolding with_bytes
 bytes_more l [] byte = refl
 bytes_more l (b ∷ bytes) byte = bytes_more (with_byte l b) bytes byte
+
+-- a line with a byte is not empty
+byte_counts : (l : Line) (byte : ℕ) → 1 ≤ (with_byte l byte).length
+unfolding with_byte pick
+byte_counts l byte = by_test (ltb l.length line_bytes) (λ t. simp t (omega arith)) (λ t. simp t (omega arith))
+
+bytes_count : (l : Line) (bytes : List ℕ) → 1 ≤ l.length → 1 ≤ (with_bytes l bytes).length
+unfolding with_bytes
+bytes_count l [] h = h
+bytes_count l (byte ∷ bytes) h = bytes_count (with_byte l byte) bytes (byte_counts l byte)
+
+pub no_bytes : (bytes : List ℕ) → (with_bytes empty_line bytes).length ≡ 0 → bytes ≡ []
+unfolding with_bytes
+no_bytes [] n = refl
+no_bytes (byte ∷ bytes) n =
+    absurd (omega (arith, n, bytes_count (with_byte empty_line byte) bytes (byte_counts empty_line byte)))
 
 pub line_more : (bytes : List ℕ) (byte : ℕ) → is_line bytes ≡ true → (byte ≡ 10 → ⊥) → is_line (bytes ++ (byte ∷ [])) ≡ true
 unfolding is_line
@@ -106,7 +122,7 @@ nothing_read i l e =
 
 module _ (before now : Input) (l : Line) (g : Going before now l) where
   -- the turns are used up
-  pub stops : LineRead before now None
+  pub stops : LineRead before now (Some l)
   unfolding line_end pick
   stops =
       record {
@@ -116,7 +132,7 @@ module _ (before now : Input) (l : Line) (g : Going before now l) where
         anew = g.anew;
         all = g.all;
         within = g.within;
-        kept = tt;
+        kept = g.keeps;
       }
 
   module _ (after : Input) (next : Option ℕ) (t : ByteTaken now after next) where
@@ -129,7 +145,7 @@ module _ (before now : Input) (l : Line) (g : Going before now l) where
         ∙ ap (λ (x : List ℕ). g.bytes ++ x) (t.all (g.within h))
 
     -- the line ends, or the input
-    ends : (closed : Bool) → came next ≡ line_end closed → (got : Option Line) → IfSome got (Keeps g.bytes) → LineRead before after got
+    ends : (closed : Bool) → came next ≡ line_end closed → (got : Option Line) → MatchOption got (g.bytes ≡ []) (Keeps g.bytes) → LineRead before after got
     ends closed c got k =
         record {
           bytes = g.bytes;
@@ -141,9 +157,10 @@ module _ (before now : Input) (l : Line) (g : Going before now l) where
           kept = k;
         }
 
-    pub none_left : next ≡ None → LineRead before after None
+    pub none_left : next ≡ None → l.length ≡ 0 → LineRead before after None
     unfolding came line_end pick
-    none_left e = ends false (ap came e) None tt
+    none_left e n =
+        ends false (ap came e) None (no_bytes g.bytes (sym (ap (λ (k : Line). k.length) g.keeps.keeps) ∙ n))
 
     pub input_ends : next ≡ None → LineRead before after (Some l)
     unfolding came line_end pick

@@ -1,12 +1,16 @@
 -- A line of the input: which bytes it takes, in order and none lost, and what is kept of them. Which bytes the input
 -- brings no contract can say: a contract says that there are such bytes.
 -- Assumes nothing.
-use Rattle.std.specs.Prelude.{ℕ, ◌+◌, ◌≤◌, ◌≡◌, Bool, true, not, List, [], ◌∷◌, ◌++◌, Option, Some, None, IfSome, ltb, eqb, length, get_or, set, take, drop, replicate}
+use Rattle.std.specs.Prelude.{ℕ, ◌+◌, ◌≤◌, ◌≡◌, Bool, true, not, List, [], ◌∷◌, ◌++◌, Option, Some, None, MatchOption, ltb, leb, eqb, length, get_or, set, take, drop, replicate}
 use Rattle.sudoku.specs.Tests.{pick, both}
 use Rattle.terminal.specs.declared.input.Input.{Input}
 use Rattle.terminal.specs.declared.input.Line.{Line}
 
 -- ---- bytes
+
+-- an input of which nothing was read
+unfoldable pub no_input : Input
+no_input = record { buffer = replicate 4096 0; at = 0; end = 0 }
 
 -- what of the input was read and is not used
 unfoldable pub unused : Input → List ℕ
@@ -55,6 +59,10 @@ unfoldable pub with_bytes : Line → List ℕ → Line
 with_bytes l [] = l
 with_bytes l (byte ∷ bytes) = with_bytes (with_byte l byte) bytes
 
+-- the bytes of a line, in order; none where one found no room
+unfoldable pub line_text : Line → Option (List ℕ)
+line_text l = pick (leb l.length line_bytes) (Some (take l.length l.memory)) None
+
 -- none of the bytes is a line's end
 unfoldable pub is_line : List ℕ → Bool
 is_line [] = true
@@ -70,7 +78,7 @@ pub record Keeps (bytes : List ℕ) (l : Line) : Type 0 where
   pub fits : l.length ≤ line_bytes + 1
 
 -- a line was read: its bytes, up to its end, are what was read and not used, and what was read anew; what follows them
--- is not used afterwards
+-- is not used afterwards. None is no line: no byte of one was taken
 pub record LineRead (before after : Input) (got : Option Line) : Type 0 where
   pub bytes : List ℕ
   pub line : is_line bytes ≡ true
@@ -78,4 +86,4 @@ pub record LineRead (before after : Input) (got : Option Line) : Type 0 where
   pub anew : List ℕ
   pub all : Within before → unused before ++ anew ≡ bytes ++ (line_end closed ++ unused after)
   pub within : Within before → Within after
-  pub kept : IfSome got (Keeps bytes)
+  pub kept : MatchOption got (bytes ≡ []) (Keeps bytes)

@@ -1,5 +1,5 @@
 // Lines of any length, of bytes of any kind, from standard input.
-ghost use Rattle.std.specs.Prelude.{◌≡◌, ◌+◌, ◌≤◌, length};
+ghost use Rattle.std.specs.Prelude.{◌≡◌, ◌+◌, ◌≤◌, option_map, length};
 
 use puzzle::byte_at;
 use std::io::Read;
@@ -26,7 +26,7 @@ pub struct Line {
 }
 
 impl Line {
-    ghost use Rattle.terminal.specs.Input.{line_bytes, empty_line, with_byte};
+    ghost use Rattle.terminal.specs.Input.{line_bytes, empty_line, with_byte, line_text};
 
     #[tactic(auto, unfolding(crate::specs::Input::empty_line))]
     fn new() -> Line
@@ -53,15 +53,21 @@ impl Line {
     }
 
     // The bytes of the line; none where it is too long.
-    pub fn text(&self) -> Option<&[u8]> {
+    #[tactic(auto, unfolding(crate::specs::Input::line_text, sudoku::specs::Tests::pick))]
+    pub fn text(&self) -> Option<&[u8]>
+        ensures { option_map (λ text. text.now) result ≡ line_text self.now }
+    {
         self.memory.get(..self.length)
     }
 }
 
 impl Input {
-    ghost use Rattle.terminal.specs.Input.{taken_at, behind, ByteTaken, LineRead};
+    ghost use Rattle.terminal.specs.Input.{no_input, taken_at, behind, ByteTaken, LineRead};
 
-    pub fn new() -> Input {
+    #[tactic(auto, unfolding(crate::specs::Input::no_input))]
+    pub fn new() -> Input
+        ensures { result ≡ no_input }
+    {
         Input {
             buffer: [0u8; INPUT_BYTES],
             at: 0,
@@ -104,8 +110,8 @@ impl Input {
         self.taken()
     }
 
-    // The next line; none where the input ended. A proved loop has to end, and nothing says that a line does, so the
-    // loop has more turns than any line uses.
+    // The next line; none where the input ended before a byte of one. A proved loop has to end, and nothing says that a
+    // line does, so the loop has more turns than any line uses; what was read by then is handed out.
     pub fn read_line(&mut self, rt: &HostRuntime) -> Option<Line>
         ensures { LineRead self.old self.new result }
     {
@@ -119,6 +125,6 @@ impl Input {
             }
             line.put(byte);
         }
-        None
+        Some(line)
     }
 }

@@ -8,7 +8,7 @@ pub loop-init : goal.loop-init
 loop-init c = nothing_read c.args.self.now _ c.new-line.ensures
 
 pub returns-then-line-eq0 : goal.returns-then-line-eq0
-returns-then-line-eq0 c = none_left _ _ _ c.loop.invariant _ _ c.next_byte.ensures c.in_default.is
+returns-then-line-eq0 c = none_left _ _ _ c.loop.invariant _ _ c.next_byte.ensures c.in_default.is c.if-line-eq0.true
 
 pub returns-else-line-eq0 : goal.returns-else-line-eq0
 returns-else-line-eq0 c = input_ends _ _ _ c.loop.invariant _ _ c.next_byte.ensures c.in_default.is
