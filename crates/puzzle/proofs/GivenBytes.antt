@@ -1,16 +1,19 @@
 -- Givens that are read from bytes: the walks of the code over `listed`
 -- givens, and which givens stand in triples and in the items of a record.
 -- Assumes nothing.
-use Prim.Native.Nat.{ℕ, zero, suc, ◌+◌, ◌-◌, ◌*◌, ◌/◌, ◌≤◌}
+use Prim.Native.Nat.{ℕ, zero, suc, ◌+◌, ◌-◌, ◌*◌, ◌/◌, ◌≤◌, ◌<◌}
 use mathlib.Core.Path.{◌≡◌, refl, sym, ap, ◌∙◌}
 use mathlib.Core.Bool.{Bool}
 use mathlib.Core.List.{List, [], ◌∷◌}
 use native.Mathlib.Nat.{mul-add, mul-one, zero-add, add_assoc}
 use native.Mathlib.Omega.{arith}
+use borrow.Author.Tests.{ltb-true, ltb-false}
+use lib.Dec.{ltb}
 use lib.ListN.{length, get_or, drop, get_or-eq_default}
 use lib.Seq.{get_or-drop}
 use Rattle.sudoku.specs.Tests.{both, every, run, listed}
 use Rattle.sudoku.specs.Grid.{cell_of, put}
+use Rattle.sudoku.proofs.Walks.{by_test}
 use Rattle.sudoku.proofs.Listed.{length_listed, listed_shift}
 use Rattle.puzzle.specs.declared.Given.{Given}
 use Rattle.puzzle.specs.declared.Refusal.{Refusal}
@@ -77,6 +80,14 @@ unfolding given_from
 given_past bytes start h =
     λ j. given (get_or-eq_default bytes 0 h j) (get_or-eq_default bytes 0 {n = start + 1} (omega arith) j)
     (get_or-eq_default bytes 0 {n = start + 2} (omega arith) j)
+
+-- a start held at the end of the bytes, and one that lies past it, give zeros
+pub given_held : (bytes : List ℕ) (k start : ℕ) → (start < length bytes → k ≡ start) → (length bytes ≤ start → length bytes ≤ k)
+    → given_from bytes k ≡ given_from bytes start
+given_held bytes k start within past =
+    by_test (ltb start (length bytes))
+    (λ t. ap (given_from bytes) (within (ltb-true _ _ t)))
+    (λ t. let h = ltb-false _ _ t in given_past bytes k (past h) ∙ sym (given_past bytes start h))
 
 -- ---- which givens stand in some bytes
 

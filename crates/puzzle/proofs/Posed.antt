@@ -10,17 +10,17 @@ use native.Mathlib.Omega.{arith}
 use borrow.Author.Tests.{leb-true, leb-false, le-leb, lt-leb, eqb-true, eqb-false, eq-eqb, ne_eqb, not-false}
 use lib.Dec.{eqb}
 use lib.ListN.{length, get_or}
-use Rattle.sudoku.specs.Tests.{pick, both, either, every}
+use Rattle.sudoku.specs.Tests.{pick, either, every}
 use Rattle.sudoku.specs.Grid.{in_range, on_grid, is_cell, are_peers, peers_of, at}
-use Rattle.sudoku.proofs.Walks.{by_test, both_left, both_right, every_at, not_both_ways, not_is_false}
+use Rattle.sudoku.proofs.Walks.{by_test, every_at, not_both_ways, not_is_false}
 use Rattle.sudoku.proofs.Grid.{cell_from, cell_to, is_cell_lem, in_range_lem, range_from, range_to, peers_length, peers_from}
 use Rattle.sudoku.proofs.Each.{Each}
 use Rattle.puzzle.specs.declared.Given.{Given}
 use Rattle.puzzle.specs.Refusals.{refusal, accepted, is_accepted, refused_if, first_refused}
 use Rattle.puzzle.specs.Givens.{ascending}
-use Rattle.puzzle.specs.Puzzle.{is_held, is_full, is_consistent, settled}
+use Rattle.puzzle.specs.Puzzle.{is_held, is_full, is_consistent}
 use Rattle.puzzle.specs.Vouch.{nothing_left, solution_digit, first_holding, solution_conflict, given_matches, givens_match, vouch, well_posed}
-use Rattle.puzzle.proofs.Puzzle.{peers_hold, full_exactly, consistent_exactly, settled_fresh, bit_true}
+use Rattle.puzzle.proofs.Puzzle.{peers_hold, full_exactly, consistent_exactly}
 use Rattle.puzzle.proofs.Accepted.{accepts, if_not, if_passed, or_else_of, or_else_left, or_else_right, or_else_parts, first_of, first_at}
 use Rattle.puzzle.proofs.Givens.{OnGrid, Matches, Rising, rising}
 
@@ -85,15 +85,13 @@ module _ (solution : List ℕ) (cell : ℕ) (p : is_cell cell ≡ true) where
       (λ t. accepts (solution_conflict solution cell) (if_not _ (refusal 25 cell _) (conflict_test ∙ t)))
 
 -- a full grid in which no cell conflicts passes at all 81 cells
-pub settled_passes : (digits : List ℕ) → settled digits 0 ≡ 1 → first_refused (solution_conflict digits) 81 1 ≡ accepted
-settled_passes digits t =
-    let s : both (is_full digits) (is_consistent digits) ≡ true = bit_true _ (sym (settled_fresh digits) ∙ t) in
+pub consistent_passes : (digits : List ℕ) → is_full digits ≡ true → is_consistent digits ≡ true → first_refused (solution_conflict digits) 81 1 ≡ accepted
+consistent_passes digits full clear =
     first_of (solution_conflict digits) 81 1
     (λ cell a b.
     let p : is_cell cell ≡ true = is_cell_lem cell a (omega arith) in
     conflict_passes digits cell p
-    (λ other q w e. (full_exactly digits).0 (both_left _ _ s) cell p
-    ((consistent_exactly digits).0 (both_right (is_full digits) _ s) cell other p q w e)))
+    (λ other q w e. (full_exactly digits).0 full cell p ((consistent_exactly digits).0 clear cell other p q w e)))
 
 -- ---- 26 and 27
 

@@ -1,5 +1,5 @@
 // Answers of calls: refused by a number, or accepted.
-ghost use Rattle.std.specs.Prelude.{◌≡◌, MatchResult};
+ghost use Rattle.std.specs.Prelude.{◌≡◌};
 ghost use Rattle.puzzle.specs.Refusals.{refusal as refusal_of, accepted as accepted_of, outcome as outcome_of};
 
 use crate::Refusal;
@@ -20,16 +20,6 @@ pub fn accepted() -> Refusal
     ensures { result ≡ accepted_of }
 {
     refusal(0, 0, 0)
-}
-
-// What a test answers, as a refusal: nothing is refused where it is Ok.
-pub fn told<E: Into<Refusal>>(outcome: Result<(), E>) -> Refusal
-    ensures { MatchResult outcome (λ _. result ≡ accepted_of) (λ e. E.converts e result) }
-{
-    match outcome {
-        Ok(()) => accepted(),
-        Err(e) => e.into(),
-    }
 }
 
 impl Refusal {

@@ -37,25 +37,16 @@ pub struct GivenBytes<'a> {
 }
 
 impl<'a> GivenBytes<'a> {
-    // The given with index i, counted from 0. The tests keep the index of its first byte from overflowing.
+    // The given with index i, counted from 0. The index of its first byte is held at the end of the bytes, behind
+    // which all givens are zeros.
     pub fn given(self, i: usize) -> Given
         ensures { result ≡ given_in self.entry.layout self.entry.bytes.now i }
     {
-        let bytes = self.bytes;
-        match self.layout {
-            Layout::Triples => {
-                if i > bytes.len() / 3 {
-                    return given_from(bytes, bytes.len());
-                }
-                given_from(bytes, 3 * i)
-            }
-            Layout::Items => {
-                if i > bytes.len() / 4 {
-                    return given_from(bytes, bytes.len());
-                }
-                given_from(bytes, 4 * i + 1)
-            }
-        }
+        let start = match self.layout {
+            Layout::Triples => i.saturating_mul(3),
+            Layout::Items => i.saturating_mul(4).saturating_add(1),
+        };
+        given_from(self.bytes, start.min(self.bytes.len()))
     }
 
     // Whether the givens ascend strictly.

@@ -12,7 +12,7 @@ ghost use Rattle.puzzle.specs.Vouch.{solution_digit, first_holding, solution_con
 
 use crate::error::WellPosedError;
 use crate::given_bytes::GivenBytes;
-use crate::{Given, byte_at, index_of, settled};
+use crate::{Given, byte_at, index_of, is_consistent, is_full};
 use sudoku::{CELLS, LINE, SIDE, in_range, on_grid, peers};
 
 // The nine digits of the solution's row r, counted from 0.
@@ -134,8 +134,9 @@ fn first_conflict(rows: [[u8; 9]; 9]) -> Result<(), WellPosedError>
 pub fn consistent(rows: [[u8; 9]; 9]) -> Result<(), WellPosedError>
     ensures { told well_posed_refusal result ≡ first_refused (solution_conflict (flat_of rows)) 81 1 }
 {
-    if settled(&flat(rows), 0) == 1 {
-        return Ok(()); // all 81 cells hold digits and none conflicts
+    let digits = flat(rows);
+    if is_full(&digits) && is_consistent(&digits) {
+        return Ok(());
     }
     first_conflict(rows)
 }
