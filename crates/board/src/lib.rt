@@ -5,6 +5,7 @@
 use puzzle::Refusal;
 
 pub mod cell;
+mod counts;
 pub mod error;
 pub mod open;
 pub mod value;

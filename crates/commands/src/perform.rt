@@ -13,7 +13,6 @@ use journal::slots::slot_at;
 use lines::{LINE_BYTES, write_line};
 use play::checks::check;
 use play::moves::play;
-use play::shown::{latest_slot, next_slot};
 use print::deeds::{made, verdict};
 use print::drawing::{keys, position, whole};
 use print::words::explain;
@@ -26,6 +25,8 @@ use std::rt::Files;
 use sudoku::cell_of;
 use texts::commands::number;
 use texts::{Command, Verb};
+use undo::direction::{Again, Back};
+use undo::shown::slot_shown;
 use undo::{redo, undo};
 
 // What a command wants.
@@ -225,7 +226,7 @@ impl Game {
 
     // The latest standing move.
     fn show_latest(&self) {
-        match latest_slot(self.board, &self.memory.journal) {
+        match slot_shown::<Back>(self.board, &self.memory.journal) {
             Ok(slot) => made(self.board.standing, slot_at(slot, 1), false),
             Err(e) => explain(e.into()),
         }
@@ -233,7 +234,7 @@ impl Game {
 
     // The next move to redo. It is numbered from those that stand, and a board has far fewer than a number holds.
     fn show_next(&self) {
-        match next_slot(self.board, &self.memory.journal) {
+        match slot_shown::<Again>(self.board, &self.memory.journal) {
             Ok(slot) => made(
                 self.board.standing.saturating_add(1),
                 slot_at(slot, 1),

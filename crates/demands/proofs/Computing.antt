@@ -101,7 +101,7 @@ unfolding scan.body2 scan.body3 scan.body5 scan.by_kind scan.take_item scan.go_o
 of_scan = 0
 
 unfoldable of_write : ℕ
-unfolding writing.givens_of writing.moves_of writing.asked_of writing.parts_of writing.unsound_check writing.unwritable writing.write_refusal writing.wrote_by writing.write_of
+unfolding writing.givens_of writing.moves_of writing.asked_of writing.parts_of play.unsound_check writing.unwritable writing.write_refusal writing.wrote_by writing.write_of
 of_write = 0
 
 unfoldable of_lines : ℕ

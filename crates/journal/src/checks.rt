@@ -1,7 +1,6 @@
 // Stored checks: check n is the nth six bytes of the lent check
 // memory. The layout is read and written here and nowhere else.
 ghost use Rattle.std.specs.Prelude.{◌≡◌, ◌*◌};
-ghost use Rattle.sudoku.specs.Tests.{bit};
 ghost use Rattle.journal.specs.Limits.{check_bytes};
 ghost use Rattle.journal.specs.Code.Laid.{laid};
 ghost use Rattle.journal.specs.StoredChecks.{stored as stored_of, is_right, judged, stored_bytes, verdict_byte, asked_at, sound_stored, is_sound_check};
@@ -12,14 +11,6 @@ use crate::{Asked, CHECK_BYTES, MAX_MOVES};
 use puzzle::{byte_at, digit_at};
 use sudoku::{cell_of, in_range};
 
-// The verdict as a byte: 1 for right, else 0.
-#[tactic(auto, unfolding(sudoku::specs::Tests::bit))]
-pub fn verdict(right: bool) -> u8
-    ensures { result ≡ bit right }
-{
-    u8::from(right)
-}
-
 // Whether a digit is the solution's at a cell.
 #[tactic(auto, unfolding(crate::specs::StoredChecks::is_right))]
 pub fn is_right(solution: &[u8; 81], cell: usize, digit: u8) -> bool
@@ -28,8 +19,8 @@ pub fn is_right(solution: &[u8; 81], cell: usize, digit: u8) -> bool
     digit_at(solution, cell) == digit
 }
 
-// Writes a check behind `index` others; a memory that ends before it stays as it is.
-#[tactic(auto, unfolding(crate::specs::StoredChecks::stored_bytes, crate::specs::Bytes::low, crate::specs::Bytes::second))]
+// Writes a check behind `index` others, its verdict 1 for right, else 0; a memory that ends before it stays as it is.
+#[tactic(auto, unfolding(sudoku::specs::Tests::bit, crate::specs::StoredChecks::stored_bytes, crate::specs::Bytes::low, crate::specs::Bytes::second))]
 fn write_check(checks: &mut [u8], index: usize, asked: Asked, right: bool)
     ensures { checks.new ≡ laid checks.old (check_bytes * index) (stored_bytes (stored_of asked right)) }
 {
@@ -40,7 +31,7 @@ fn write_check(checks: &mut [u8], index: usize, asked: Asked, right: bool)
         asked.row,
         asked.column,
         asked.digit,
-        verdict(right),
+        u8::from(right),
     ];
     write_entry(checks, index, &bytes);
 }

@@ -9,7 +9,6 @@ use crate::played::{pawdoku_check, pawdoku_redo, pawdoku_undo};
 use board::{Answer, Board, Checked};
 use calls::encoded::{decode, groups};
 use calls::{CALL_BYTES, Call, NO_CALL};
-use journal::checks::verdict;
 use puzzle::answer::{accepted, refusal};
 use puzzle::{Refusal, byte_at};
 
@@ -27,12 +26,12 @@ fn decode_at(calls: &[u8], i: usize) -> Option<Call>
 }
 
 // An answer as four bytes.
-#[tactic(auto, unfolding(calls::specs::Encoded::answer_bytes, journal::specs::Bytes::low, journal::specs::Bytes::second))]
+#[tactic(auto, unfolding(sudoku::specs::Tests::bit, calls::specs::Encoded::answer_bytes, journal::specs::Bytes::low, journal::specs::Bytes::second))]
 fn encoded(r: Refusal, right: bool) -> [u8; CALL_BYTES]
     ensures { result ≡ answer_bytes (said r right) }
 {
     let [low, second, ..] = r.place.to_le_bytes();
-    [r.number, low, second, verdict(right)]
+    [r.number, low, second, u8::from(right)]
 }
 
 // The answer of a call that is no check, written with the verdict false; the board that the call leaves is handed on.

@@ -1,27 +1,26 @@
 -- What the calls give where they are refused and where they are accepted, and what an
 -- accepted call has passed: where its slot or its check goes, the memory has room.
 -- Assumes nothing.
-use Prim.Native.Nat.{ℕ, ◌+◌, ◌-◌, ◌*◌, ◌≤◌, ◌<◌}
+use Prim.Native.Nat.{ℕ, ◌+◌, ◌*◌, ◌≤◌, ◌<◌}
 use mathlib.Core.Path.{◌≡◌, sym, ap, ◌∙◌}
 use mathlib.Core.Bool.{Bool, true, false}
 use mathlib.Core.List.{List, [], ◌∷◌, ◌++◌}
 use native.Mathlib.Omega.{arith}
-use borrow.Author.Tests.{eqb-true, eqb-false, leb-true, leb-false, eq-eqb, ne_eqb, not-false}
+use borrow.Author.Tests.{eqb-true, eqb-false, leb-true, eq-eqb, ne_eqb, not-false}
 use lib.Dec.{leb, eqb}
-use lib.ListN.{length, take, drop}
+use lib.ListN.{length}
 use Rattle.sudoku.specs.Tests.{Test, ◌⇒◌, first}
 use Rattle.sudoku.proofs.Walks.{passed, pick_true, pick_false, both_left, both_right}
 use Rattle.puzzle.specs.Refusals.{refusal, accepted, first_refused}
 use Rattle.puzzle.proofs.Refusals.{or_else_by, or_else_passed}
 use Rattle.journal.specs.declared.Move.{Move}
 use Rattle.journal.specs.Limits.{max_moves, max_checks, slot_bytes, journal_bytes, check_bytes, check_memory}
-use Rattle.journal.specs.Bytes.{part, over}
+use Rattle.journal.specs.Bytes.{over}
 use Rattle.journal.specs.StoredChecks.{stored_bytes}
 use Rattle.board.specs.declared.Board.{Board}
 use Rattle.board.specs.Board.{state_of, is_board, lent_tests}
-use Rattle.play.specs.Play.{unsound_slot, journal_refusal, played, move_tests, call_tests, record_move, play_of, slot_refusal, latest_number, latest_part, next_number, next_part}
+use Rattle.play.specs.Play.{unsound_slot, journal_refusal, played, move_tests, call_tests, record_move, play_of, slot_refusal}
 use Rattle.play.specs.Check.{checked, check_tests, check_on, with_check, check_of}
-use Rattle.journal.specs.Slots.{slot_part, slot_start}
 use Rattle.play.proofs.Joined.{moves_numbered, join_last}
 
 -- ---- the counts of a board value that number 2 does not refuse
@@ -143,42 +142,3 @@ module _ (b : Board) (checks : List ℕ) (row column n : ℕ) (e : n ≡ first (
     where
       fewer : Counted b → (b.checks ≡ max_checks → ⊥) → b.checks < max_checks
       fewer c h = omega (arith, c.checks, h)
-
--- ---- the latest and the next move
-
--- the eight bytes behind n slots
-pub part_next : (journal : List ℕ) (n : ℕ) → take (slot_bytes * n + slot_bytes - slot_bytes * n) (drop (slot_bytes * n) journal) ≡ slot_part journal (n + 1)
-unfolding slot_part part slot_start
-part_next journal n =
-    let size : slot_bytes * n + slot_bytes - slot_bytes * n ≡ slot_bytes = omega arith in
-    let start : slot_bytes * n ≡ slot_bytes * (n + 1 - 1) = omega arith in
-    λ i. take (size i) (drop (start i) journal)
-
-module _ (b : Board) (journal : List ℕ) where
-  pub latest_part_lem : latest_number b journal ≡ 0 → slot_part journal b.standing ≡ latest_part b journal
-  unfolding latest_part
-  latest_part_lem p = sym (pick_true _ _ _ (eq-eqb (latest_number b journal) 0 p))
-
-  -- a move stands, and its slot lies within the journal
-  pub latest_within : latest_number b journal ≡ 0 → (1 ≤ b.standing) × (slot_bytes * b.standing ≤ length journal)
-  unfolding latest_number
-  latest_within p =
-      let lent = lent_passed b journal _ p in
-      within lent.counts lent.bytes (eqb-false b.standing 0 (passed _ 11 _ lent.rest).0)
-    where
-      within : Counted b → length journal ≡ journal_bytes → (b.standing ≡ 0 → ⊥) → (1 ≤ b.standing) × (slot_bytes * b.standing ≤ length journal)
-      within c q h = (omega (arith, h), omega (arith, c.made, c.standing, q))
-
-  pub next_part_lem : next_number b journal ≡ 0 → slot_part journal (b.standing + 1) ≡ next_part b journal
-  unfolding next_part
-  next_part_lem p = sym (pick_true _ _ _ (eq-eqb (next_number b journal) 0 p))
-
-  -- the slot after the standing ones lies within the journal
-  pub next_within : next_number b journal ≡ 0 → slot_bytes * b.standing + slot_bytes ≤ length journal
-  unfolding next_number
-  next_within p =
-      let lent = lent_passed b journal _ p in
-      within lent.counts lent.bytes (leb-false b.made b.standing (passed _ 12 _ lent.rest).0)
-    where
-      within : Counted b → length journal ≡ journal_bytes → b.standing < b.made → slot_bytes * b.standing + slot_bytes ≤ length journal
-      within c q h = omega (arith, c.made, q, h)

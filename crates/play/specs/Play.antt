@@ -17,6 +17,7 @@ use Rattle.journal.specs.Limits.{max_moves, slot_bytes, journal_bytes}
 use Rattle.journal.specs.Bytes.{over}
 use Rattle.journal.specs.State.{State, digit_at, note_at, holds_players_digit, accepts_marks, perform, perform_again, take_back, stands_as_left, stands_as_found}
 use Rattle.journal.specs.Slots.{slot_for, bytes_of, slot_at, slot_part, move_of, is_sound}
+use Rattle.journal.specs.StoredChecks.{is_sound_check}
 use Rattle.journal.specs.Counts.{recorded, taken_back, retaken}
 use Rattle.board.specs.declared.Board.{Board}
 use Rattle.board.specs.declared.Answer.{Answer}
@@ -91,6 +92,10 @@ slot_refusal n slot = refusal n (pick (eqb n 14) slot 0) 0
 -- 14 of slot n: it is unsound
 unfoldable pub unsound_slot : List ℕ → List ℕ → ℕ → Refusal
 unsound_slot given journal n = refused_if (not (is_sound given (slot_at journal n))) (refusal 14 n 0)
+
+-- 14 of stored check n, with inner 1: it is unsound
+unfoldable pub unsound_check : List ℕ → List ℕ → ℕ → Refusal
+unsound_check given checks n = refused_if (not (is_sound_check given checks n)) (refusal 14 n 1)
 
 -- what writing and readings test of a board and its journal: 1; 2; 14 of slots 1 to made, place naming the first
 unfoldable pub journal_refusal : Bool → Board → List ℕ → Refusal

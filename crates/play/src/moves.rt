@@ -1,5 +1,6 @@
 // The four moves: what each one does to the board, what it displaces, and how it is recorded.
 ghost use Rattle.std.specs.Prelude.{◌*◌, ◌≡◌};
+ghost use Rattle.journal.specs.Kinds.{kind_byte};
 ghost use Rattle.journal.specs.State.{put_digit, perform as perform_of};
 ghost use Rattle.journal.specs.Counts.{recorded};
 ghost use Rattle.journal.specs.Limits.{slot_bytes};
@@ -12,7 +13,7 @@ use crate::tests::call_test;
 use board::{Answer, Board};
 use journal::notes::{Strike, Write, change_in, holders, strike_all_in};
 use journal::slots::write_slot;
-use journal::{Counts, ERASE, Move, PLACE, STRIKE_MARK, Slot, WRITE_MARK};
+use journal::{Move, MoveKind, Slot};
 use puzzle::answer::accepted;
 use puzzle::{digit_at, put_at, settled};
 use sudoku::{cell_of, peers};
@@ -51,11 +52,12 @@ pub fn perform(board: &mut Board, m: Move)
 }
 
 // The slot of a move that strikes no mark.
-fn plain_slot(kind: u8, row: u8, column: u8, digit: u8, before: u8) -> Slot
-    ensures { result ≡ plain_slot kind row column digit before }
+#[tactic(auto, unfolding(journal::specs::Kinds::kind_byte))]
+fn plain_slot(kind: MoveKind, row: u8, column: u8, digit: u8, before: u8) -> Slot
+    ensures { result ≡ plain_slot (kind_byte kind) row column digit before }
 {
     Slot {
-        kind,
+        kind: kind.into(),
         row,
         column,
         digit,
@@ -65,23 +67,37 @@ fn plain_slot(kind: u8, row: u8, column: u8, digit: u8, before: u8) -> Slot
 }
 
 // The slot of a move with what it displaces: the digit before, and the peers that lose the mark.
-#[tactic(auto, unfolding(board::specs::Board::state_of, journal::specs::State::kind_of, journal::specs::State::row_in, journal::specs::State::column_in, journal::specs::State::digit_in, journal::specs::State::before, journal::specs::State::struck, journal::specs::State::digit_at, journal::specs::Slots::slot_for, journal::specs::Slots::plain_slot))]
+#[tactic(auto, unfolding(board::specs::Board::state_of, journal::specs::Kinds::kind_byte, journal::specs::State::kind_of, journal::specs::State::row_in, journal::specs::State::column_in, journal::specs::State::digit_in, journal::specs::State::before, journal::specs::State::struck, journal::specs::State::digit_at, journal::specs::Slots::slot_for, journal::specs::Slots::plain_slot))]
 pub fn slot_of(board: &Board, m: Move) -> Slot
     ensures { result ≡ slot_for (state_of board.now) m }
 {
     match m {
         Move::Place { row, column, digit } => {
             let cell = cell_of(row, column);
-            let mut slot = plain_slot(PLACE, row, column, digit, digit_at(&board.digits, cell));
-            slot.struck = holders(&board.notes, digit, peers(cell));
-            slot
+            let before = digit_at(&board.digits, cell);
+            Slot {
+                struck: holders(&board.notes, digit, peers(cell)),
+                ..plain_slot(MoveKind::Place, row, column, digit, before)
+            }
         }
         Move::Erase { row, column } => {
             let before = digit_at(&board.digits, cell_of(row, column));
-            plain_slot(ERASE, row, column, 0, before)
+            plain_slot(MoveKind::Erase, row, column, 0, before)
         }
-        Move::WriteMark { row, column, digit } => plain_slot(WRITE_MARK, row, column, digit, 0),
-        Move::StrikeMark { row, column, digit } => plain_slot(STRIKE_MARK, row, column, digit, 0),
+        Move::WriteMark { row, column, digit } => plain_slot(
+            MoveKind::WriteMark,
+            row,
+            column,
+            digit,
+            0,
+        ),
+        Move::StrikeMark { row, column, digit } => plain_slot(
+            MoveKind::StrikeMark,
+            row,
+            column,
+            digit,
+            0,
+        ),
     }
 }
 
@@ -93,13 +109,9 @@ pub fn make(board: &mut Board, journal: &mut [u8], m: Move)
 {
     write_slot(journal, board.standing, slot_of(board, m));
     perform(board, m);
-    let mut counts = Counts {
-        made: board.made,
-        standing: board.standing,
-    };
+    let mut counts = board.counts();
     counts.record();
-    board.made = counts.made;
-    board.standing = counts.standing;
+    board.set_counts(counts);
 }
 
 // A call that makes a move. Refused by the numbers of the move, and by 1 2 15.

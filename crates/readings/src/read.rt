@@ -10,9 +10,9 @@ use crate::error::ReadingError;
 use crate::replay::after;
 use board::Board;
 use board::value::lent;
-use journal::JOURNAL_BYTES;
 use journal::slots::slot_at;
-use play::sound::sound_slots;
+use journal::{JOURNAL_BYTES, Move};
+use play::sound::all_sound;
 use puzzle::Refusal;
 use puzzle::answer::accepted;
 
@@ -22,7 +22,7 @@ fn reading_test(board: Board, journal: &[u8], k: usize) -> Result<(), ReadingErr
     ensures { told reading_error_refusal result ≡ reading_refusal board journal.now k }
 {
     lent(board, journal.len() == JOURNAL_BYTES)?;
-    sound_slots(&board.given, journal, board.made)?;
+    all_sound::<Move>(&board.given, journal, board.made)?;
     if k == 0 || k > board.made {
         return Err(ReadingError::NoSuchMove);
     }

@@ -24,7 +24,8 @@ use Rattle.journal.specs.StoredChecks.{Stored, stored_all, stored_at, verdict_by
 use Rattle.journal.proofs.Memory.{slots_bytes, slot_listed, stored_listed, verdict_listed}
 use Rattle.play.specs.Play.{unsound_slot}
 use Rattle.journal.specs.declared.Asked.{Asked}
-use Rattle.record.specs.Write.{moves_of, asked_of, unsound_check}
+use Rattle.play.specs.Play.{unsound_check}
+use Rattle.record.specs.Write.{moves_of, asked_of}
 
 -- ---- a list read entry by entry
 

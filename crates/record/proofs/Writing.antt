@@ -21,7 +21,7 @@ use Rattle.board.specs.declared.error.PlayError.{PlayError}
 use Rattle.board.specs.Board.{lent_tests}
 use Rattle.board.specs.Errors.{play_number, play_refusal}
 use Rattle.board.proofs.Told.{has_number}
-use Rattle.play.specs.Play.{unsound_slot, journal_refusal}
+use Rattle.play.specs.Play.{unsound_slot, journal_refusal, unsound_check}
 use Rattle.play.specs.declared.sound.Unsound.{Unsound}
 use Rattle.play.specs.Unsound.{unsound_refusal}
 use Rattle.play.proofs.Accepted.{lent_refuses, slots_decide}
@@ -29,7 +29,7 @@ use Rattle.record.specs.declared.error.WriteError.{WriteError}
 use Rattle.record.specs.Errors.{write_error_refusal}
 use Rattle.record.proofs.Errors.{unsound_numbered, write_numbered}
 use Rattle.record.specs.Items.{record_of}
-use Rattle.record.specs.Write.{parts_of, unsound_check, unwritable, write_refusal, wrote, wrote_by, write_of}
+use Rattle.record.specs.Write.{parts_of, unwritable, write_refusal, wrote, wrote_by, write_of}
 
 -- ---- 1, 2 and 14
 

@@ -1,6 +1,6 @@
 -- Writing a record of document 01: refusals 1, 2, 14, 34; the record in the output, bytes beyond it as they were.
 -- Assumes nothing.
-use Rattle.std.specs.Prelude.{ℕ, ◌-◌, not, List, ltb, eqb, length}
+use Rattle.std.specs.Prelude.{ℕ, ◌-◌, List, ltb, eqb, length}
 use Rattle.sudoku.specs.Tests.{pick, both, listed}
 use Rattle.sudoku.specs.Grid.{at}
 use Rattle.puzzle.specs.declared.Given.{Given as Setters}
@@ -11,9 +11,9 @@ use Rattle.journal.specs.declared.Move.{Move}
 use Rattle.journal.specs.Limits.{journal_bytes, check_memory}
 use Rattle.journal.specs.Bytes.{over}
 use Rattle.journal.specs.Slots.{slot_at, move_of}
-use Rattle.journal.specs.StoredChecks.{asked_at, is_sound_check}
+use Rattle.journal.specs.StoredChecks.{asked_at}
 use Rattle.board.specs.declared.Board.{Board}
-use Rattle.play.specs.Play.{journal_refusal}
+use Rattle.play.specs.Play.{unsound_check, journal_refusal}
 use Rattle.journal.specs.declared.Asked.{Asked}
 use Rattle.record.specs.declared.Written.{Written}
 use Rattle.record.specs.Items.{Parts, record_of}
@@ -39,10 +39,6 @@ parts_of b journal checks =
       undone = b.made - b.standing;
       checks = asked_of checks b.checks;
     }
-
--- 14 of check n, with inner 1
-unfoldable pub unsound_check : List ℕ → List ℕ → ℕ → Refusal
-unsound_check given checks n = refused_if (not (is_sound_check given checks n)) (refusal 14 n 1)
 
 -- 1; 2; 14 for slots 1 to made, then for the stored checks
 unfoldable pub unwritable : Board → List ℕ → List ℕ → Refusal

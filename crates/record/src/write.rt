@@ -4,14 +4,13 @@
 ghost use Rattle.std.specs.Prelude.{◌≡◌, ℕ, List, ◌+◌, ◌*◌, ◌≤◌, length, IfOk, OnErr};
 ghost use Rattle.puzzle.specs.Givens.{is_given};
 ghost use Rattle.sudoku.specs.Tests.{count as count_of};
-ghost use Rattle.puzzle.specs.Refusals.{first_refused, told};
+ghost use Rattle.puzzle.specs.Refusals.{told};
 ghost use Rattle.journal.specs.Limits.{max_moves, max_checks};
 ghost use Rattle.journal.specs.Bytes.{over};
-ghost use Rattle.play.specs.Unsound.{unsound_refusal};
 ghost use Rattle.record.specs.declared.Item.{Item};
 ghost use Rattle.record.specs.declared.Item.TheVariants.{Played};
 ghost use Rattle.record.specs.Items.{encode, record_of};
-ghost use Rattle.record.specs.Write.{parts_of, unsound_check, unwritable, write_refusal, write_of};
+ghost use Rattle.record.specs.Write.{parts_of, unwritable, write_refusal, write_of};
 ghost use Rattle.record.specs.Errors.{write_error_refusal};
 ghost use Rattle.record.specs.Code.Laying.{given_bytes, givens_bytes, moves_bytes, move_in, check_in, bytes_to};
 
@@ -19,13 +18,13 @@ use crate::error::WriteError;
 use crate::{CHECK_ITEM, ERASE_ITEM, GIVEN_ITEM, Item, MOVE_ITEM, UNDONE_ITEM, Written};
 use board::Board;
 use board::value::lent;
-use journal::checks::{check_at, is_sound_check};
+use journal::checks::check_at;
 use journal::slots::{is_given, move_of, slot_at};
 use journal::{
     Asked, CHECK, CHECK_MEMORY, ERASE, GIVEN, JOURNAL_BYTES, Move, PLACE, STRIKE_MARK, UNDONE,
     WRITE_MARK,
 };
-use play::sound::{Unsound, sound_slots};
+use play::sound::all_sound;
 use puzzle::answer::accepted;
 use puzzle::{Refusal, digit_at};
 use sudoku::{CELLS, column_of, row_of};
@@ -169,18 +168,6 @@ fn lay_stored<S: Stored>(memory: &[u8], count: usize, output: &mut [u8], start: 
     at
 }
 
-// 14 of the first of the checks 1 to count that is unsound.
-fn sound_checks(given: &[u8; 81], checks: &[u8], count: usize) -> Result<(), Unsound>
-    ensures { told unsound_refusal result ≡ first_refused (unsound_check given.now checks.now) count 1 }
-{
-    for index in 1..=count {
-        if !is_sound_check(given, checks, index) {
-            return Err(Unsound::Check { index });
-        }
-    }
-    Ok(())
-}
-
 // What is written: a board and its memory that 1, 2 and 14 do not refuse. `tested` alone makes one.
 #[derive(Clone, Copy)]
 struct Kept<'a> {
@@ -200,8 +187,8 @@ impl<'a> Kept<'a> {
     {
         let fits = (journal.len() == JOURNAL_BYTES) & (checks.len() == CHECK_MEMORY);
         lent(*board, fits)?;
-        sound_slots(&board.given, journal, board.made)?;
-        sound_checks(&board.given, checks, board.checks)?;
+        all_sound::<Move>(&board.given, journal, board.made)?;
+        all_sound::<Asked>(&board.given, checks, board.checks)?;
         Ok(Kept {
             board,
             journal,

@@ -12,10 +12,12 @@ use Rattle.journal.specs.declared.DigitChange.{DigitChange}
 use Rattle.sudoku.specs.Tests.{Test, ◌⇒◌, first, pick}
 use Rattle.sudoku.specs.Grid.{cell_of}
 use Rattle.sudoku.proofs.Walks.{pick_true, pick_false, refused, both_first, both_false_left, and_both}
+use Rattle.puzzle.specs.declared.Refusal.{Refusal}
 use Rattle.puzzle.specs.Refusals.{refusal, accepted}
 use Rattle.journal.specs.declared.Slot.{Slot}
 use Rattle.journal.specs.State.{State, put_digit}
 use Rattle.journal.specs.Slots.{move_of, digit_change, slot_at, is_sound}
+use Rattle.board.specs.declared.Answer.{Answer}
 use Rattle.board.specs.declared.Board.{Board}
 use Rattle.board.specs.declared.error.PlayError.{PlayError}
 use Rattle.board.specs.Board.{state_of, counts_of, moved, lent_tests}
@@ -40,6 +42,10 @@ first_below : (ts : List Test) → Below ts → first ts < 14
 unfolding first
 first_below [] q = omega arith
 first_below (t ∷ ts) q = pick_below t.holds t.number (first ts) q.0 (first_below ts q.1)
+
+-- the board of an answer
+pub left : (r : Refusal) (b : Board) (a : Answer) → answer r b ≡ a → b ≡ a.board
+left r b a e = ap (λ (x : Answer). x.board) e
 
 -- the digit leaves the notes
 pub notes_stay : (w : Way) (s : State) (cell : ℕ) (change : Option DigitChange) → (digit_gone w s cell change).notes ≡ s.notes

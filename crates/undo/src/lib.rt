@@ -6,6 +6,7 @@
 pub mod digits;
 pub mod direction;
 pub mod marks;
+pub mod shown;
 
 ghost use Rattle.std.specs.Prelude.{◌≡◌, length, IfOk};
 ghost use Rattle.sudoku.specs.Tests.{first};
@@ -23,7 +24,7 @@ use board::value::lent;
 use board::{Answer, Board};
 use direction::{Again, Back, Direction};
 use journal::slots::{is_sound, slot_at};
-use journal::{Counts, JOURNAL_BYTES, Slot};
+use journal::{JOURNAL_BYTES, Slot};
 use play::sound::Unsound;
 use puzzle::Refusal;
 use puzzle::answer::accepted;
@@ -38,10 +39,7 @@ fn slot_asked<D: Direction>(board: Board, journal: &[u8]) -> Result<usize, PlayE
     if board.solved != 0 {
         return Err(PlayError::Solved);
     }
-    D::slot(Counts {
-        made: board.made,
-        standing: board.standing,
-    })
+    D::slot(board.counts())
 }
 
 // A recorded move gone over on a board in place, of which `before` is a copy; a refused one leaves it.
@@ -62,13 +60,9 @@ fn go<D: Direction>(board: &mut Board, before: Board, journal: &[u8]) -> Result<
         *board = before; // without the marks changed
         return Err(Refusal::from(Unsound::Slot { index: n }));
     }
-    let mut counts = Counts {
-        made: before.made,
-        standing: before.standing,
-    };
+    let mut counts = before.counts();
     D::step(&mut counts);
-    board.made = counts.made;
-    board.standing = counts.standing;
+    board.set_counts(counts);
     Ok(())
 }
 
@@ -105,6 +99,7 @@ pub fn redo(board: Board, journal: &[u8]) -> Answer
 }
 
 // Undo on a board in place; a refused one leaves it. Reopening takes back so, one move after the other.
+#[tactic(auto, using(crate::proofs::Going::left), unfolding(crate::specs::Code::Ways::call_of, crate::specs::Code::Ways::before_slot, crate::specs::Code::Ways::fits, board::specs::Board::counts_of, play::specs::Play::undo_of, play::specs::Play::undo_tests, play::specs::Play::undo_before, play::specs::Play::can_take_back, play::specs::Play::undone))]
 pub fn take_back(board: &mut Board, journal: &[u8])
     ensures { board.new ≡ (undo_of board.old journal.now).board }
 {

@@ -53,5 +53,5 @@ returns g c =
     let stay = notes_stay w (state_of b) (cell_of slot.row slot.column) (digit_change slot) in
     let ok : (c.put-digit_stood.result && c.change-marks_stood.result) ≡ fits w (state_of b) slot =
     rw (c.put-digit_stood.ensures.stood, c.change-marks_stood.ensures.stood, c.put-digit_stood.ensures.board, c.slot_at-slot.ensures, c.in_ok-n.ensures.slot, c.requires, stay) (fits_parts w laws (state_of b) slot (sym asks ∙ c.if-not-is_sound.false)) in
-    rw (c.change-marks_stood.ensures.board, c.put-digit_stood.ensures.board, c.step.ensures, c.slot_at-slot.ensures, c.in_ok-n.ensures.slot, c.requires)
+    rw (c.set_counts.ensures, c.step.ensures, c.counts-counts.ensures, c.change-marks_stood.ensures.board, c.put-digit_stood.ensures.board, c.slot_at-slot.ensures, c.in_ok-n.ensures.slot, c.requires)
     (ap (λ (s : State). answer accepted (moved b s (w.counts (counts_of b)))) (laws.whole (state_of b) slot) ∙ gone w laws b c.args.journal.now c.in_ok-n.ensures.number (sym ok ∙ c.if-not-digit_stood-marks_stood.false))

@@ -17,7 +17,7 @@ use Rattle.journal.specs.declared.Slot.{Slot}
 use Rattle.journal.specs.Limits.{journal_bytes}
 use Rattle.journal.specs.Counts.{taken_back, retaken}
 use Rattle.journal.specs.State.{State, with_notes, put_digit, write_at, strike_at, write_masked, strike_masked, perform_again, take_back, stands_as_left, stands_as_found}
-use Rattle.journal.specs.Slots.{slot_at, move_of, digit_change, is_sound}
+use Rattle.journal.specs.Slots.{slot_at, slot_part, move_of, digit_change, is_sound}
 use Rattle.journal.specs.Code.InTurn.{lack_in_turn, none_missing_in_turn}
 use Rattle.board.specs.declared.Board.{Board}
 use Rattle.board.specs.declared.Answer.{Answer}
@@ -122,11 +122,21 @@ call_of w b journal =
     let n = first (before_slot w b (length journal) ++ ((not (fits w (state_of b) slot) ⇒ 14) ∷ [])) in
     pick (eqb n 0) (answer accepted (moved b (w.whole (state_of b) slot) (w.counts (counts_of b)))) (answer (slot_refusal n (w.slot (counts_of b))) b)
 
+-- the move that the way would go over, shown: the tests before it, and the part of the lent journal that holds it, an
+-- empty part after a refusal
+unfoldable pub shown_number : Way → Board → List ℕ → ℕ
+shown_number w b journal = first (lent_tests (eqb (length journal) journal_bytes) b (w.none (counts_of b) ∷ []))
+
+unfoldable pub shown_part : Way → Board → List ℕ → List ℕ
+shown_part w b journal = pick (eqb (shown_number w b journal) 0) (slot_part journal (w.slot (counts_of b))) []
+
 -- what holds of both ways
 pub record Laws (w : Way) : Type 0 where
   -- a number that is not 0, and is not that of the slot
   pub numbered : (c : Counts) → 1 ≤ (w.none c).number
   pub below_14 : (c : Counts) → (w.none c).number < 14
+  -- a move that is there is one of those that were made
+  pub within : (c : Counts) → first (w.none c ∷ []) ≡ 0 → c.standing ≤ c.made → (1 ≤ w.slot c) × (w.slot c ≤ c.made)
   -- a mask of 0 speaks of no peer
   pub no_mask : (notes : List ℕ) (digit : ℕ) (cells : List ℕ) → w.displaced notes digit 0 cells ≡ notes
   pub no_mask_stood : (notes : List ℕ) (digit : ℕ) (cells : List ℕ) → w.displaced_stood notes digit 0 cells ≡ true

@@ -4,12 +4,16 @@ use native.Mathlib.Omega.{arith}
 use denote.Bor.{Bor}
 use mathlib.Core.List.{List}
 use Prim.Native.Nat.{ℕ}
-use Rattle.play.proofs.Accepted.{latest_within}
-use Rattle.pawdoku.proofs.Showing.{where_shown, latest_length}
+use Rattle.board.specs.Board.{counts_of}
+use Rattle.undo.specs.Code.Ways.{back}
+use Rattle.undo.specs.Code.Kept.{back_laws}
+use Rattle.undo.proofs.Showing.{shown_within, shown_length}
+use Rattle.pawdoku.proofs.Showing.{where_shown}
 use Rattle.pawdoku.proofs.slots.pawdoku_latest.Goals as goal
 
 pub shown-requires : goal.shown-requires
+unfolding counts_of
 shown-requires c =
     let a = c.args in
-    where_shown (λ (p : Bor (List ℕ)). p.now) _ _ _ _ c.latest_slot-slot.ensures.number c.latest_slot-slot.ensures.part
-    (λ z. (latest_length a.board a.journal.now z, omega (arith, latest_within a.board a.journal.now z, c.saturating_sub.ensures)))
+    where_shown (λ (p : Bor (List ℕ)). p.now) _ _ _ _ c.slot_shown-slot.ensures.number c.slot_shown-slot.ensures.part
+    (λ z. (shown_length back back_laws a.board a.journal.now z, omega (arith, shown_within back back_laws a.board a.journal.now z, c.saturating_sub.ensures, c.type_inv.journal)))

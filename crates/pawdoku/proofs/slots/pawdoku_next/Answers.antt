@@ -4,12 +4,16 @@ use native.Mathlib.Omega.{arith}
 use denote.Bor.{Bor}
 use mathlib.Core.List.{List}
 use Prim.Native.Nat.{ℕ}
-use Rattle.play.proofs.Accepted.{next_within}
-use Rattle.pawdoku.proofs.Showing.{where_shown, next_length}
+use Rattle.board.specs.Board.{counts_of}
+use Rattle.undo.specs.Code.Ways.{again}
+use Rattle.undo.specs.Code.Kept.{again_laws}
+use Rattle.undo.proofs.Showing.{shown_within, shown_length}
+use Rattle.pawdoku.proofs.Showing.{where_shown}
 use Rattle.pawdoku.proofs.slots.pawdoku_next.Goals as goal
 
 pub shown-requires : goal.shown-requires
+unfolding counts_of
 shown-requires c =
     let a = c.args in
-    where_shown (λ (p : Bor (List ℕ)). p.now) _ _ _ _ c.next_slot-slot.ensures.number c.next_slot-slot.ensures.part
-    (λ z. (next_length a.board a.journal.now z, omega (arith, next_within a.board a.journal.now z)))
+    where_shown (λ (p : Bor (List ℕ)). p.now) _ _ _ _ c.slot_shown-slot.ensures.number c.slot_shown-slot.ensures.part
+    (λ z. (shown_length again again_laws a.board a.journal.now z, omega (arith, shown_within again again_laws a.board a.journal.now z, c.type_inv.journal)))

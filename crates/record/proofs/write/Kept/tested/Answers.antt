@@ -13,17 +13,17 @@ returns-in_err-lent-clause-refusal c =
     let p = err_from_is_err_and c.from_residual.result c.from_residual.ensures.1 in
     rw (p.1, p.2) (lent_told a.board.now a.journal.now a.checks.now _ (and_both _ _) _ c.in_err-lent.ensures)
 
-pub returns-in_err-sound_slots-clause-refusal : goal.returns-in_err-sound_slots-clause-refusal
-returns-in_err-sound_slots-clause-refusal c =
+pub returns-in_err-all_sound-clause-refusal : goal.returns-in_err-all_sound-clause-refusal
+returns-in_err-all_sound-clause-refusal c =
     let a = c.args in
-    let p = err_from_is_err_and c.from_residual-in_err-sound_slots.result c.from_residual-in_err-sound_slots.ensures.1 in
-    rw (p.1, p.2) (slots_told a.board.now a.journal.now a.checks.now _ (and_both _ _) c.in_ok-lent.ensures _ c.in_err-sound_slots.ensures)
+    let p = err_from_is_err_and c.from_residual-in_err-all_sound.result c.from_residual-in_err-all_sound.ensures.1 in
+    rw (p.1, p.2) (slots_told a.board.now a.journal.now a.checks.now _ (and_both _ _) c.in_ok-lent.ensures _ c.in_err-all_sound.ensures)
 
-pub returns-in_err-sound_checks-clause-refusal : goal.returns-in_err-sound_checks-clause-refusal
-returns-in_err-sound_checks-clause-refusal c =
+pub returns-in_err-all_sound-2-clause-refusal : goal.returns-in_err-all_sound-2-clause-refusal
+returns-in_err-all_sound-2-clause-refusal c =
     let a = c.args in
-    let p = err_from_is_err_and c.from_residual-in_err-sound_checks.result c.from_residual-in_err-sound_checks.ensures.1 in
-    rw (p.1, p.2) (c.in_err-sound_checks.ensures ∙ checks_told a.board.now a.journal.now a.checks.now _ (and_both _ _) c.in_ok-lent.ensures c.in_ok-sound_slots.ensures)
+    let p = err_from_is_err_and c.from_residual-in_err-all_sound-2.result c.from_residual-in_err-all_sound-2.ensures.1 in
+    rw (p.1, p.2) (c.in_err-all_sound-2.ensures ∙ checks_told a.board.now a.journal.now a.checks.now _ (and_both _ _) c.in_ok-lent.ensures c.in_ok-all_sound.ensures)
 
 pub invariant_of-result : goal.invariant_of-result
 invariant_of-result c =
@@ -33,4 +33,4 @@ invariant_of-result c =
 pub returns-clause-refusal : goal.returns-clause-refusal
 returns-clause-refusal c =
     let a = c.args in
-    c.in_ok-sound_checks.ensures ∙ checks_told a.board.now a.journal.now a.checks.now _ (and_both _ _) c.in_ok-lent.ensures c.in_ok-sound_slots.ensures
+    c.in_ok-all_sound-2.ensures ∙ checks_told a.board.now a.journal.now a.checks.now _ (and_both _ _) c.in_ok-lent.ensures c.in_ok-all_sound.ensures
