@@ -15,7 +15,7 @@ use Rattle.board.specs.Open.{Opened, no_moves, no_checks, open_of, Gives}
 use Rattle.lines.specs.declared.error.LineError.{LineError}
 use Rattle.lines.specs.Errors.{line_error_refusal}
 use Rattle.lines.specs.Lines.{line_refusal, values_of, digits_bytes}
-use Rattle.lines.proofs.Answered.{has_number_of}
+use Rattle.lines.proofs.Answered.{line_numbered}
 use Rattle.lines.proofs.Reading.{digits_of_line}
 use Rattle.files.specs.Disk.{Content, cells_in}
 use Rattle.files.specs.Load.{left, nothing_loaded, stays, takes_place, load_file, load_solved, load_of, open_line, load_line}
@@ -33,7 +33,7 @@ number_of p = ap (λ (x : Refusal). x.number) p
 
 is_no_line : (line : List ℕ) (e : LineError) → line_error_refusal e ≡ line_refusal line → is_accepted (line_refusal line) ≡ false
 unfolding is_accepted
-is_no_line line e p = ne_eqb (line_refusal line).number 0 (λ z. has_number_of e (number_of p ∙ z))
+is_no_line line e p = ne_eqb (line_refusal line).number 0 (λ z. line_numbered e (number_of p ∙ z))
 
 is_line_lem : (line : List ℕ) → accepted ≡ line_refusal line → is_accepted (line_refusal line) ≡ true
 unfolding is_accepted

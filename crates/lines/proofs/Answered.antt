@@ -1,4 +1,4 @@
--- What a call that writes bytes answers, by what its tests told: why it is refused, or the bytes.
+-- Each error of lines has a number.
 -- Assumes nothing.
 use Prim.Native.Nat.{ℕ}
 use mathlib.Core.Path.{◌≡◌, sym, ap}
@@ -15,15 +15,8 @@ use Rattle.lines.specs.declared.error.LineError.{LineError}
 use Rattle.lines.specs.declared.error.LineError.TheVariants.{Play, OutputTooShort, NotALine, OtherSort}
 use Rattle.lines.specs.Errors.{line_error_refusal}
 
-pub has_number_of : (e : LineError) → (line_error_refusal e).number ≡ 0 → ⊥
-has_number_of (Play e) p = omega (arith, has_number e, p)
-has_number_of OutputTooShort p = omega (arith, p)
-has_number_of NotALine p = omega (arith, p)
-has_number_of (OtherSort character) p = omega (arith, p)
-
-module _ (r : Refusal) (bytes output : List ℕ) where
-  pub refused_told : (e : LineError) → line_error_refusal e ≡ r → wrote (line_error_refusal e) 0 output ≡ wrote_by r bytes output
-  refused_told e p = wrote_nothing r bytes output (line_error_refusal e) (sym p) (has_number_of e)
-
-  pub written_told : accepted ≡ r → wrote accepted (length bytes) (over output 0 bytes) ≡ wrote_by r bytes output
-  written_told p = wrote_bytes r bytes output (ap (λ (x : Refusal). x.number) (sym p))
+pub line_numbered : (e : LineError) → (line_error_refusal e).number ≡ 0 → ⊥
+line_numbered (Play e) p = omega (arith, has_number e, p)
+line_numbered OutputTooShort p = omega (arith, p)
+line_numbered NotALine p = omega (arith, p)
+line_numbered (OtherSort character) p = omega (arith, p)

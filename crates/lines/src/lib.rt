@@ -20,11 +20,9 @@ use board::error::PlayError;
 use board::value::is_board;
 use error::LineError;
 use journal::slots::is_given;
-use puzzle::answer::accepted;
 use puzzle::digit_at;
 use puzzle::text::value_of;
 use record::Written;
-use record::write::nothing_written;
 use sudoku::{CELLS, column_of, row_of};
 
 pub mod error;
@@ -116,13 +114,7 @@ fn read(line: &[u8], output: &mut [u8]) -> Result<usize, LineError>
 pub fn read_line(line: &[u8], output: &mut [u8]) -> Written
     ensures { (result ≡ (read_line_of line.now output.old).answer) × (output.new ≡ (read_line_of line.now output.old).output) }
 {
-    match read(line, output) {
-        Ok(length) => Written {
-            refusal: accepted(),
-            length,
-        },
-        Err(e) => nothing_written(e.into()),
-    }
+    Written::told(read(line, output))
 }
 
 // The character of a cell: its digit where it is a given, else a full stop, whatever the player has put there.
@@ -169,11 +161,5 @@ fn written(board: &Board, output: &mut [u8]) -> Result<usize, LineError>
 pub fn write_line(board: Board, output: &mut [u8]) -> Written
     ensures { (result ≡ (write_line_of board output.old).answer) × (output.new ≡ (write_line_of board output.old).output) }
 {
-    match written(&board, output) {
-        Ok(length) => Written {
-            refusal: accepted(),
-            length,
-        },
-        Err(e) => nothing_written(e.into()),
-    }
+    Written::told(written(&board, output))
 }

@@ -20,6 +20,9 @@ use Rattle.journal.specs.StoredChecks.{stored_bytes}
 use Rattle.board.specs.declared.Board.{Board}
 use Rattle.board.specs.Board.{state_of, is_board, lent_tests}
 use Rattle.play.specs.Play.{unsound_slot, journal_refusal, played, move_tests, call_tests, record_move, play_of, slot_refusal}
+use Rattle.play.specs.declared.sound.Unsound.{Unsound}
+use Rattle.play.specs.declared.sound.Unsound.TheVariants.{Slot, Check}
+use Rattle.play.specs.Unsound.{unsound_refusal}
 use Rattle.play.specs.Check.{checked, check_tests, check_on, with_check, check_of}
 use Rattle.play.proofs.Joined.{moves_numbered, join_last}
 
@@ -59,6 +62,11 @@ lent_passed b journal ts p =
     }
 
 -- ---- what writing and readings test of a board and its journal
+
+-- what is unsound has a number
+pub unsound_numbered : (e : Unsound) → (unsound_refusal e).number ≡ 0 → ⊥
+unsound_numbered (Slot index) p = omega (arith, p)
+unsound_numbered (Check index) p = omega (arith, p)
 
 module _ (fits : Bool) (b : Board) (journal : List ℕ) (n : ℕ) (e : n ≡ first (lent_tests fits b [])) where
   pub lent_refuses : (n ≡ 0 → ⊥) → refusal n 0 0 ≡ journal_refusal fits b journal

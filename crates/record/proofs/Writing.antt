@@ -11,7 +11,8 @@ use lib.ListN.{length}
 use Rattle.sudoku.specs.Tests.{first, both}
 use Rattle.sudoku.proofs.Walks.{pick_true, pick_false}
 use Rattle.puzzle.specs.declared.Refusal.{Refusal}
-use Rattle.puzzle.specs.Refusals.{refusal, accepted, is_accepted, refused_if, or_else, first_refused}
+use Rattle.std.specs.Prelude.{Result, Ok, Err, IfOk, OnErr, MatchResult}
+use Rattle.puzzle.specs.Refusals.{told, refusal, accepted, is_accepted, refused_if, or_else, first_refused}
 use Rattle.puzzle.proofs.Accepted.{if_not}
 use Rattle.puzzle.proofs.Refusals.{refused_if_lem, or_else_by, or_else_passed, or_else_past}
 use Rattle.journal.specs.Limits.{journal_bytes, check_memory}
@@ -27,9 +28,11 @@ use Rattle.play.specs.Unsound.{unsound_refusal}
 use Rattle.play.proofs.Accepted.{lent_refuses, slots_decide}
 use Rattle.record.specs.declared.error.WriteError.{WriteError}
 use Rattle.record.specs.Errors.{write_error_refusal}
-use Rattle.record.proofs.Errors.{unsound_numbered, write_numbered}
+use Rattle.play.proofs.Accepted.{unsound_numbered}
+use Rattle.record.proofs.Errors.{write_numbered}
 use Rattle.record.specs.Items.{record_of}
-use Rattle.record.specs.Write.{parts_of, unwritable, write_refusal, wrote, wrote_by, write_of}
+use Rattle.record.specs.declared.Written.{Written}
+use Rattle.record.specs.Write.{parts_of, unwritable, write_refusal, Wrote, wrote, wrote_by}
 
 -- ---- 1, 2 and 14
 
@@ -68,6 +71,19 @@ module _ (r : Refusal) (bytes output : List ℕ) where
   unfolding wrote_by is_accepted
   wrote_bytes z = sym (pick_true (is_accepted r) _ _ (eq-eqb r.number 0 z))
 
+-- by what was told: the bytes and how many there are, or the error and what stayed
+pub told_wrote : {E : Type 0} (f : E → Refusal) (numbered : (e : E) → (f e).number ≡ 0 → ⊥) (r : Refusal) (bytes output after : List ℕ)
+    (outcome : Result ℕ E) (answer : Written) → told f outcome ≡ r
+    → IfOk outcome (λ n. (n ≡ length bytes) × (after ≡ over output 0 bytes)) → OnErr outcome (after ≡ output)
+    → MatchResult outcome (λ n. answer ≡ record { refusal = accepted; length = n }) (λ e. (answer.refusal ≡ f e) × (answer.length ≡ 0))
+    → (answer ≡ (wrote_by r bytes output).answer) × (after ≡ (wrote_by r bytes output).output)
+told_wrote f numbered r bytes output after (Ok n) answer why laid kept told_ok =
+    let w = wrote_bytes r bytes output (ap (λ (x : Refusal). x.number) (sym why)) in
+    (told_ok ∙ (λ i. (wrote accepted (laid.0 i) output).answer) ∙ ap (λ (x : Wrote). x.answer) w, laid.1 ∙ ap (λ (x : Wrote). x.output) w)
+told_wrote f numbered r bytes output after (Err e) answer why laid kept told_err =
+    let w = wrote_nothing r bytes output (f e) (sym why) (numbered e) in
+    ((λ i. (wrote (told_err.0 i) (told_err.1 i) output).answer) ∙ ap (λ (x : Wrote). x.answer) w, kept ∙ ap (λ (x : Wrote). x.output) w)
+
 -- ---- what writing a record answers: the same, and 34
 
 module _ (b : Board) (journal checks output : List ℕ) where
@@ -88,13 +104,3 @@ module _ (b : Board) (journal checks output : List ℕ) where
 
     pub long_enough : size ≤ length output → accepted ≡ write_refusal b journal checks output
     long_enough h = sym (by_length ∙ if_not _ (refusal 34 0 0) (ap (ltb (length output)) (sym is) ∙ le-ltb (length output) size h))
-
-  pub refused_told : (e : WriteError) → write_error_refusal e ≡ write_refusal b journal checks output
-      → wrote (write_error_refusal e) 0 output ≡ write_of b journal checks output
-  unfolding write_of
-  refused_told e p = wrote_nothing (write_refusal b journal checks output) _ output (write_error_refusal e) (sym p) (write_numbered e)
-
-  pub written_told : accepted ≡ write_refusal b journal checks output
-      → wrote accepted (length (record_of (parts_of b journal checks))) (over output 0 (record_of (parts_of b journal checks))) ≡ write_of b journal checks output
-  unfolding write_of
-  written_told p = wrote_bytes (write_refusal b journal checks output) _ output (ap (λ (r : Refusal). r.number) (sym p))

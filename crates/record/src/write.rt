@@ -1,10 +1,10 @@
 // Writing a record: 1, 2 and 14, the record's length against the output's
 // (34), then its items laid into the output one after the other. Board, journal and checks come as C hands them over;
 // once they are tested they go together, as `Kept`.
-ghost use Rattle.std.specs.Prelude.{◌≡◌, ℕ, List, ◌+◌, ◌*◌, ◌≤◌, length, IfOk, OnErr};
+ghost use Rattle.std.specs.Prelude.{◌≡◌, ℕ, List, ◌+◌, ◌*◌, ◌≤◌, length, IfOk, OnErr, MatchResult};
 ghost use Rattle.puzzle.specs.Givens.{is_given};
 ghost use Rattle.sudoku.specs.Tests.{count as count_of};
-ghost use Rattle.puzzle.specs.Refusals.{told};
+ghost use Rattle.puzzle.specs.Refusals.{told, accepted as accepted_of};
 ghost use Rattle.journal.specs.Limits.{max_moves, max_checks};
 ghost use Rattle.journal.specs.Bytes.{over};
 ghost use Rattle.record.specs.declared.Item.{Item};
@@ -231,13 +231,21 @@ impl<'a> Kept<'a> {
     }
 }
 
-// The answer of a refused call that writes: nothing was written.
-pub fn nothing_written(refused: Refusal) -> Written
-    ensures { result ≡ record { refusal = refused; length = 0 } }
-{
-    Written {
-        refusal: refused,
-        length: 0,
+impl Written {
+    // What a call that writes bytes answers: how many it wrote, or why it wrote none.
+    pub fn told<E: Into<Refusal>>(outcome: Result<usize, E>) -> Written
+        ensures { MatchResult outcome (λ n. result ≡ record { refusal = accepted_of; length = n }) (λ e. (E.converts e result.refusal) × (result.length ≡ 0)) }
+    {
+        match outcome {
+            Ok(length) => Written {
+                refusal: accepted(),
+                length,
+            },
+            Err(e) => Written {
+                refusal: e.into(),
+                length: 0,
+            },
+        }
     }
 }
 
@@ -265,11 +273,5 @@ fn written(
 pub fn write(board: Board, journal: &[u8], checks: &[u8], output: &mut [u8]) -> Written
     ensures { (result ≡ (write_of board journal.now checks.now output.old).answer) × (output.new ≡ (write_of board journal.now checks.now output.old).output) }
 {
-    match written(&board, journal, checks, output) {
-        Ok(length) => Written {
-            refusal: accepted(),
-            length,
-        },
-        Err(e) => nothing_written(e.into()),
-    }
+    Written::told(written(&board, journal, checks, output))
 }

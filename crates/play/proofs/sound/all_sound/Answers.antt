@@ -1,19 +1,14 @@
 -- `play::sound::all_sound` meets its contract: what is left to test from an entry on decides.
 -- Assumes nothing.
 use Prim.Native.Nat.{◌+◌}
-use mathlib.Core.Path.{◌≡◌, refl, sym, ◌∙◌}
+use mathlib.Core.Path.{refl, sym, ◌∙◌}
 use native.Mathlib.Omega.{arith}
 use Rattle.std.proofs.lemmas.Result.{err_from_is_err_and}
 use Rattle.puzzle.specs.Refusals.{accepted}
 use Rattle.puzzle.proofs.Refusals.{walk_refused, walk_more, walk_all}
-use Rattle.play.specs.declared.sound.Unsound.{Unsound}
-use Rattle.play.specs.declared.sound.Unsound.TheVariants.{Slot, Check}
 use Rattle.play.specs.Unsound.{unsound_refusal}
+use Rattle.play.proofs.Accepted.{unsound_numbered}
 use Rattle.play.proofs.sound.all_sound.Goals as goal
-
-refuses : (e : Unsound) → (unsound_refusal e).number ≡ 0 → ⊥
-refuses (Slot index) h = omega (arith, h)
-refuses (Check index) h = omega (arith, h)
 
 pub returns-in_err-sound : goal.returns-in_err-sound
 returns-in_err-sound g c =
@@ -21,7 +16,7 @@ returns-in_err-sound g c =
     let e = c.in_err-sound.field-0.0 in
     let left = err_from_is_err_and c.from_residual.result c.from_residual.ensures.1 in
     rw (left.1, left.2)
-    (sym (turn.invariant ∙ walk_refused _ (c.args.count + 1) turn.index (unsound_refusal e) (omega arith) c.in_err-sound.ensures (refuses e)))
+    (sym (turn.invariant ∙ walk_refused _ (c.args.count + 1) turn.index (unsound_refusal e) (omega arith) c.in_err-sound.ensures (unsound_numbered e)))
 
 pub loop-index-preserved : goal.loop-index-preserved
 loop-index-preserved g c =

@@ -1,20 +1,16 @@
 -- `record::write::write` meets its contract: the record, or why it is not written.
 -- Assumes nothing.
-use mathlib.Core.Path.{ap, ◌∙◌}
-use Rattle.record.specs.Write.{Wrote, wrote}
-use Rattle.record.proofs.Writing.{refused_told, written_told}
+use Rattle.record.specs.Items.{record_of}
+use Rattle.record.specs.Errors.{write_error_refusal}
+use Rattle.record.specs.Write.{parts_of, write_refusal, write_of}
+use Rattle.record.proofs.Errors.{write_numbered}
+use Rattle.record.proofs.Writing.{told_wrote}
 use Rattle.record.proofs.write.write.Goals as goal
 
-pub returns-in-Ok : goal.returns-in-Ok
-returns-in-Ok c =
+pub returns : goal.returns
+unfolding write_of
+returns c =
     let a = c.args in
-    let told = c.in-Ok.ensures in
-    let w = written_told a.board a.journal.now a.checks.now a.output.now told.refusal in
-    ((λ i. (wrote (c.accepted.ensures i) (told.laid.0 i) a.output.now).answer) ∙ ap (λ (x : Wrote). x.answer) w, told.laid.1 ∙ ap (λ (x : Wrote). x.output) w)
-
-pub returns-in-Err : goal.returns-in-Err
-returns-in-Err c =
-    let a = c.args in
-    let told = c.in-Err.ensures in
-    let w = refused_told a.board a.journal.now a.checks.now a.output.now c.in-Err.e told.refusal in
-    (c.nothing_written.ensures ∙ (λ i. (wrote (c.into.ensures i) 0 a.output.now).answer) ∙ ap (λ (x : Wrote). x.answer) w, told.kept ∙ ap (λ (x : Wrote). x.output) w)
+    let why = c.written.ensures in
+    told_wrote write_error_refusal write_numbered (write_refusal a.board a.journal.now a.checks.now a.output.now)
+    (record_of (parts_of a.board a.journal.now a.checks.now)) a.output.now _ c.written.result _ why.refusal why.laid why.kept c.told.ensures
