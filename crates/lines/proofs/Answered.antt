@@ -1,16 +1,8 @@
 -- Each error of lines has a number.
 -- Assumes nothing.
-use Prim.Native.Nat.{ℕ}
-use mathlib.Core.Path.{◌≡◌, sym, ap}
-use mathlib.Core.List.{List}
+use mathlib.Core.Path.{◌≡◌}
 use native.Mathlib.Omega.{arith}
-use lib.ListN.{length}
-use Rattle.puzzle.specs.declared.Refusal.{Refusal}
-use Rattle.puzzle.specs.Refusals.{accepted}
-use Rattle.journal.specs.Bytes.{over}
 use Rattle.board.proofs.Told.{has_number}
-use Rattle.record.specs.Write.{wrote, wrote_by}
-use Rattle.record.proofs.Writing.{wrote_nothing, wrote_bytes}
 use Rattle.lines.specs.declared.error.LineError.{LineError}
 use Rattle.lines.specs.declared.error.LineError.TheVariants.{Play, OutputTooShort, NotALine, OtherSort}
 use Rattle.lines.specs.Errors.{line_error_refusal}

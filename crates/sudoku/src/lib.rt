@@ -76,7 +76,7 @@ pub fn box_index(line: u8) -> u8
     line.saturating_sub(1) / BOX_SIDE + 1
 }
 
-// The band of a row, counted from the top.
+// The band of a row, counted from the top. Bands and stacks are the field's two words, and C has a call for each.
 pub fn band(row: u8) -> u8
     ensures { result ≡ box_index row }
 {
