@@ -29,7 +29,7 @@ fn counted(state: Progress, read: Read) -> Option<Progress>
         ..state
     };
     match read.item {
-        Item::Given { .. } => (state.phase == Phase::Givens).then_some(Progress {
+        Item::Given(_) => (state.phase == Phase::Givens).then_some(Progress {
             counts: Scanned {
                 givens: counts.givens + 1,
                 ..counts
@@ -49,10 +49,10 @@ fn counted(state: Progress, read: Read) -> Option<Progress>
             counts: Scanned { undone, ..counts },
             ..next
         }),
-        Item::Check { standing, .. } => (state.phase == Phase::Checks).then_some(Progress {
+        Item::Check(asked) => (state.phase == Phase::Checks).then_some(Progress {
             counts: Scanned {
                 checks: counts.checks + 1,
-                late: counts.late || standing > MAX_MOVES,
+                late: counts.late || asked.standing > MAX_MOVES,
                 ..counts
             },
             ..next

@@ -27,7 +27,7 @@ use journal::{
 };
 use play::sound::{Unsound, sound_slots};
 use puzzle::answer::accepted;
-use puzzle::{Refusal, digit_at};
+use puzzle::{Given, Refusal, digit_at};
 use sudoku::{CELLS, column_of, row_of};
 
 // How many cells hold a given.
@@ -67,7 +67,7 @@ fn lay_item(item: Item, output: &mut [u8], at: usize) -> usize
     ensures { (result ≡ at + length (encode item)) × (output.new ≡ over output.old at (encode item)) }
 {
     match item {
-        Item::Given { row, column, digit } => lay(output, at, &[GIVEN, row, column, digit]),
+        Item::Given(Given { row, column, digit }) => lay(output, at, &[GIVEN, row, column, digit]),
         Item::Played(Move::Place { row, column, digit }) => lay(
             output,
             at,
@@ -88,14 +88,9 @@ fn lay_item(item: Item, output: &mut [u8], at: usize) -> usize
             let [low, second, ..] = n.to_le_bytes();
             lay(output, at, &[UNDONE, low, second])
         }
-        Item::Check {
-            standing,
-            row,
-            column,
-            digit,
-        } => {
-            let [low, second, ..] = standing.to_le_bytes();
-            lay(output, at, &[CHECK, low, second, row, column, digit])
+        Item::Check(c) => {
+            let [low, second, ..] = c.standing.to_le_bytes();
+            lay(output, at, &[CHECK, low, second, c.row, c.column, c.digit])
         }
     }
 }
@@ -110,11 +105,11 @@ fn lay_given(board: &Board, cell: usize, output: &mut [u8], at: usize) -> usize
         return at;
     }
     lay_item(
-        Item::Given {
+        Item::Given(Given {
             row: row_of(cell) as u8,
             column: column_of(cell) as u8,
             digit: digit_at(&board.digits, cell),
-        },
+        }),
         output,
         at,
     )
@@ -152,8 +147,9 @@ impl Stored for Move {
 impl Stored for Asked {
     ghost item_in = { check_in };
 
+    #[tactic(auto, unfolding(crate::specs::Items::check_item))]
     fn item_at(checks: &[u8], n: usize) -> Item {
-        check_at(checks, n).into()
+        Item::Check(check_at(checks, n))
     }
 }
 
