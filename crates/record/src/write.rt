@@ -104,6 +104,7 @@ fn lay_given(board: &Board, cell: usize, output: &mut [u8], at: usize) -> usize
     if !is_given(&board.given, cell) {
         return at;
     }
+    // row and column are at most 9, since the cell is at most 81: `try_from` would have a case that cannot come
     lay_item(
         Item::Given(Given {
             row: row_of(cell) as u8,
