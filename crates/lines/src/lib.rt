@@ -72,6 +72,7 @@ fn lay_given(digits: &[u8; 81], cell: usize, output: &mut [u8], at: usize) -> us
         return at;
     }
     let end = at + GIVEN_BYTES;
+    // row and column are at most 9, since the cell is at most 81: `try_from` would have a case that cannot come
     output[at..end].copy_from_slice(&[row_of(cell) as u8, column_of(cell) as u8, digit]);
     end
 }

@@ -15,6 +15,7 @@ use lib.ListN.{length, drop, get_or, length-drop, drop_of_length-le, get_or-eq_d
 use lib.Seq.{drop-cons, get_or-drop}
 use Rattle.sudoku.specs.Tests.{pick}
 use Rattle.sudoku.proofs.Walks.{by_test, pick_false}
+use Rattle.puzzle.specs.Givens.{given}
 use Rattle.journal.specs.declared.Move.TheVariants.{Place, Erase, WriteMark, StrikeMark}
 use Rattle.journal.specs.Bytes.{two}
 use Rattle.journal.specs.Slots.{move_of}
@@ -24,7 +25,7 @@ use Rattle.record.specs.declared.Item.{Item}
 use Rattle.record.specs.declared.Item.TheVariants.{Given, Played, Undone, Check}
 use Rattle.record.specs.declared.Shape.{Shape}
 use Rattle.record.specs.Items.{encode, check_item}
-use Rattle.record.specs.Scan.{broken, take_item, by_kind, body2, body3, body5}
+use Rattle.record.specs.Scan.{asked, broken, take_item, by_kind, body2, body3, body5}
 use Rattle.record.specs.Code.Counting.{shape_of, taken, read, read_of, move_at, asked_from, item_of}
 
 -- ---- cases over the kinds
@@ -138,13 +139,13 @@ module _ (at : ℕ) where
   unfolding shape_of take_item by_kind pick item_of move_at move_of asked_from check_item encode read_of
   begins =
       kinds (λ kind. (l : List ℕ) → Begins kind l (shape_of kind))
-      (λ l. (short3 Given l, whole3 Given (λ a b c. refl) l))
+      (λ l. (short3 _ l, whole3 (λ row column digit. Given (given row column digit)) (λ a b c. refl) l))
       (λ l. (short3 _ l, whole3 (λ row column digit. Played (Place row column digit)) (λ a b c. refl) l))
       (λ l. (short2 _ l, whole2 (λ row column. Played (Erase row column)) (λ a b. refl) l))
       (λ l. (short3 _ l, whole3 (λ row column digit. Played (WriteMark row column digit)) (λ a b c. refl) l))
       (λ l. (short3 _ l, whole3 (λ row column digit. Played (StrikeMark row column digit)) (λ a b c. refl) l))
       (λ l. (short2 _ l, whole2 (λ a b. Undone (two a b)) (λ a b. refl) l))
-      (λ l. (short5 _ l, whole5 (λ a b row column digit. Check (two a b) row column digit) (λ a b c d g. refl) l))
+      (λ l. (short5 _ l, whole5 (λ a b row column digit. Check (asked (two a b) row column digit)) (λ a b c d g. refl) l))
       (λ k o l. subst (Begins k l) (sym (other_kind k _ _ _ _ _ _ _ _ o)) (other_kind k _ _ _ _ _ _ _ _ o))
 
 -- what stands in the bytes from an offset on
@@ -176,7 +177,7 @@ ask_shift bytes at =
 -- the item of a group in the bytes from an offset on
 item_shift : (bytes : List ℕ) (at : ℕ) (group : Group) → item_of (drop at bytes) 0 group ≡ item_of bytes at group
 unfolding item_of move_at
-item_shift bytes at Givens = λ j. Given (get_or-drop at bytes 1 0 j) (get_or-drop at bytes 2 0 j) (get_or-drop at bytes 3 0 j)
+item_shift bytes at Givens = λ j. Given (given (get_or-drop at bytes 1 0 j) (get_or-drop at bytes 2 0 j) (get_or-drop at bytes 3 0 j))
 item_shift bytes at Moves = ap Played (move_shift bytes at)
 item_shift bytes at Count = λ j. Undone (two (get_or-drop at bytes 1 0 j) (get_or-drop at bytes 2 0 j))
 item_shift bytes at Checks = ap check_item (ask_shift bytes at)

@@ -18,17 +18,17 @@ use Rattle.record.specs.declared.Item.{Item}
 use Rattle.record.specs.declared.Item.TheVariants.{Given, Played, Undone, Check}
 use Rattle.journal.specs.declared.Asked.{Asked}
 use Rattle.record.specs.Items.{Parts, encode, encode_all, given_item, check_item, items_of, record_of}
-use Rattle.record.specs.Scan.{Items, ended, then, take_item, by_kind, body2, body3, body5, go_on, items_in, items_of_bytes, reached, may_stand, scan, malformed, add, no_parts, parts_in, parts_of_bytes}
+use Rattle.record.specs.Scan.{asked, Items, ended, then, take_item, by_kind, body2, body3, body5, go_on, items_in, items_of_bytes, reached, may_stand, scan, malformed, add, no_parts, parts_in, parts_of_bytes}
 use Rattle.sudoku.proofs.Each.{Each, each_append, each_all, each_map}
 
 -- ---- what fits two bytes
 
 -- an item's number fits its two bytes
 unfoldable pub Fits : Item → Type 0
-Fits (Given row column digit) = Unit
+Fits (Given g) = Unit
 Fits (Played m) = Unit
 Fits (Undone n) = n < 65536
-Fits (Check standing row column digit) = standing < 65536
+Fits (Check c) = c.standing < 65536
 
 abbrev pub CheckFits : Asked → Type 0
 CheckFits c = c.standing < 65536
@@ -43,14 +43,14 @@ stream (i ∷ is) = then i (stream is)
 -- the item in front of some bytes
 pub take_first : (fuel : ℕ) (i : Item) (bytes : List ℕ) → Fits i → items_in (suc fuel) (encode i ++ bytes) ≡ then i (items_in fuel bytes)
 unfolding Fits encode items_in take_item by_kind body2 body3 body5 go_on pick
-take_first fuel (Given row column digit) bytes h = refl
+take_first fuel (Given g) bytes h = refl
 take_first fuel (Played (Place row column digit)) bytes h = refl
 take_first fuel (Played (Erase row column)) bytes h = refl
 take_first fuel (Played (WriteMark row column digit)) bytes h = refl
 take_first fuel (Played (StrikeMark row column digit)) bytes h = refl
 take_first fuel (Undone n) bytes h = ap (λ (k : ℕ). then (Undone k) (items_in fuel bytes)) (two_bytes n h)
-take_first fuel (Check standing row column digit) bytes h =
-    ap (λ (k : ℕ). then (Check k row column digit) (items_in fuel bytes)) (two_bytes standing h)
+take_first fuel (Check c) bytes h =
+    ap (λ (k : ℕ). then (Check (asked k c.row c.column c.digit)) (items_in fuel bytes)) (two_bytes c.standing h)
 
 -- with fuel for each of them
 pub items_read : (fuel : ℕ) (is : List Item) → Each Fits is → length is ≤ fuel → items_in fuel (encode_all is) ≡ stream is
@@ -64,13 +64,13 @@ items_read (suc fuel) (i ∷ is) h u =
 -- no item is without bytes
 pub encode_some : (i : Item) → 1 ≤ length (encode i)
 unfolding encode
-encode_some (Given row column digit) = omega arith
+encode_some (Given g) = omega arith
 encode_some (Played (Place row column digit)) = omega arith
 encode_some (Played (Erase row column)) = omega arith
 encode_some (Played (WriteMark row column digit)) = omega arith
 encode_some (Played (StrikeMark row column digit)) = omega arith
 encode_some (Undone n) = omega arith
-encode_some (Check standing row column digit) = omega arith
+encode_some (Check c) = omega arith
 
 pub items_le_bytes : (is : List Item) → length is ≤ length (encode_all is)
 unfolding encode_all

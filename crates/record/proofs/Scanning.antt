@@ -23,7 +23,6 @@ use Rattle.std.specs.Option.{ok_or}
 use Rattle.journal.specs.declared.Move.TheVariants.{Place, Erase, WriteMark, StrikeMark}
 use Rattle.journal.specs.Limits.{max_moves}
 use Rattle.journal.specs.Bytes.{two}
-use Rattle.journal.specs.declared.Asked.{Asked}
 use Rattle.record.specs.declared.Item.{Item}
 use Rattle.record.specs.declared.Item.TheVariants.{Given, Played, Undone, Check}
 use Rattle.record.specs.contracts.Phase.{the_type}
@@ -33,7 +32,7 @@ use Rattle.record.specs.declared.Progress.{Progress}
 use Rattle.record.specs.declared.Read.{Read}
 use Rattle.record.specs.declared.Scanned.{Scanned}
 use Rattle.record.specs.Items.{Parts, encode}
-use Rattle.record.specs.Scan.{Taken, got, broken, Items, ended, cut, then, take_item, by_kind, body2, body3, body5, go_on, items_in, items_of_bytes, reached, may_stand, scan, malformed, add, no_parts, parts_in, parts_of_bytes}
+use Rattle.record.specs.Scan.{asked, Taken, got, broken, Items, ended, cut, then, take_item, by_kind, body2, body3, body5, go_on, items_in, items_of_bytes, reached, may_stand, scan, malformed, add, no_parts, parts_in, parts_of_bytes}
 use Rattle.record.specs.Reopen.{any_late}
 use Rattle.record.specs.Code.Counting.{taken, read, read_of, phase_number, progress, Room, given_step, move_step, undone_step, check_step, item_step, scanned, counts_of}
 use Rattle.record.proofs.ReadBack.{encode_some}
@@ -74,13 +73,13 @@ Leaves kind = (l : List ℕ) → Behind l (take_item kind l)
 leaves : (kind : ℕ) → Leaves kind
 unfolding Behind take_item by_kind pick encode
 leaves =
-    kinds Leaves (behind3 Given (λ a b c. refl))
+    kinds Leaves (behind3 (λ row column digit. Given (given row column digit)) (λ a b c. refl))
     (behind3 (λ row column digit. Played (Place row column digit)) (λ a b c. refl))
     (behind2 (λ row column. Played (Erase row column)) (λ a b. refl))
     (behind3 (λ row column digit. Played (WriteMark row column digit)) (λ a b c. refl))
     (behind3 (λ row column digit. Played (StrikeMark row column digit)) (λ a b c. refl))
     (behind2 (λ a b. Undone (two a b)) (λ a b. refl))
-    (behind5 (λ a b row column digit. Check (two a b) row column digit) (λ a b c d e. refl))
+    (behind5 (λ a b row column digit. Check (asked (two a b) row column digit)) (λ a b c d e. refl))
     (λ k o l. subst (Behind l) (sym (other_kind k _ _ _ _ _ _ _ _ o)) tt)
 
 shorter : (l rest : List ℕ) (i : Item) → Behind l (got i rest) → length rest ≤ length l
@@ -157,9 +156,6 @@ unfolding pick
 not_picked true x e = absurd cc
 not_picked false x e = refl
 
-asked : ℕ → ℕ → ℕ → ℕ → Asked
-asked standing row column digit = record { standing = standing; row = row; column = column; digit = digit }
-
 either_assoc : (a b c : Bool) → either (either a b) c ≡ either a (either b c)
 unfolding either
 either_assoc true b c = refl
@@ -186,13 +182,13 @@ module _ (s : Progress) (at : ℕ) (is : Items) (r : Refusal) (c : Scanned) wher
 
   pub steps_on : (i : Item) (next : Progress) → Comes s (then i is) r c → item_step s i at ≡ Some next → Comes next is r c
   unfolding item_step given_step move_step undone_step check_step may_stand reached parts_in add any_late either pick
-  steps_on (Given row column digit) next h e =
+  steps_on (Given g) next h e =
       let q = picked _ _ next e in
       subst (λ (n : Progress). Comes n is r c) q.1
       (record {
-        refusal = (λ j. scan (eqb-true phase 0 q.0 j) (s.item + 1) is) ∙ after (Given row column digit) q.0 h.refusal;
+        refusal = (λ j. scan (eqb-true phase 0 q.0 j) (s.item + 1) is) ∙ after (Given g) q.0 h.refusal;
         counts =
-            (λ j. scanned (one_more s.counts.givens (given row column digit) p.givens j) (s.counts.moves + length p.moves) (pick (eqb phase 2) s.counts.undone p.undone) (s.counts.checks + length p.checks) (either s.counts.late (any_late p.checks)))
+            (λ j. scanned (one_more s.counts.givens g p.givens j) (s.counts.moves + length p.moves) (pick (eqb phase 2) s.counts.undone p.undone) (s.counts.checks + length p.checks) (either s.counts.late (any_late p.checks)))
             ∙ h.counts;
       })
   steps_on (Played m) next h e =
@@ -213,31 +209,31 @@ module _ (s : Progress) (at : ℕ) (is : Items) (r : Refusal) (c : Scanned) wher
             (λ j. scanned (s.counts.givens + length p.givens) (s.counts.moves + length p.moves) (sym (pick_false (eqb phase 2) s.counts.undone n (before_count phase q.0)) j) (s.counts.checks + length p.checks) (either s.counts.late (any_late p.checks)))
             ∙ h.counts;
       })
-  steps_on (Check standing row column digit) next h e =
+  steps_on (Check a) next h e =
       let q = picked _ _ next e in
       subst (λ (n : Progress). Comes n is r c) q.1
       (record {
-        refusal = (λ j. scan (eqb-true phase 2 q.0 j) (s.item + 1) is) ∙ after (Check standing row column digit) q.0 h.refusal;
+        refusal = (λ j. scan (eqb-true phase 2 q.0 j) (s.item + 1) is) ∙ after (Check a) q.0 h.refusal;
         counts =
-            (λ j. scanned (s.counts.givens + length p.givens) (s.counts.moves + length p.moves) (pick (eqb phase 2) s.counts.undone p.undone) (one_more s.counts.checks (asked standing row column digit) p.checks j) (either_assoc s.counts.late (not (leb standing max_moves)) (any_late p.checks) j))
+            (λ j. scanned (s.counts.givens + length p.givens) (s.counts.moves + length p.moves) (pick (eqb phase 2) s.counts.undone p.undone) (one_more s.counts.checks a p.checks j) (either_assoc s.counts.late (not (leb a.standing max_moves)) (any_late p.checks) j))
             ∙ h.counts;
       })
 
   -- or with one that may not
   pub stops : (i : Item) → Comes s (then i is) r c → item_step s i at ≡ None → refusal 17 s.item 0 ≡ r
   unfolding item_step given_step move_step undone_step check_step may_stand scan
-  stops (Given row column digit) h e = sym (pick_false _ _ _ (not_picked _ _ e)) ∙ h.refusal
+  stops (Given g) h e = sym (pick_false _ _ _ (not_picked _ _ e)) ∙ h.refusal
   stops (Played m) h e = sym (pick_false _ _ _ (not_picked _ _ e)) ∙ h.refusal
   stops (Undone n) h e = sym (pick_false _ _ _ (not_picked _ _ e)) ∙ h.refusal
-  stops (Check standing row column digit) h e = sym (pick_false _ _ _ (not_picked _ _ e)) ∙ h.refusal
+  stops (Check a) h e = sym (pick_false _ _ _ (not_picked _ _ e)) ∙ h.refusal
 
 -- where the item that stands next ends, the next one starts
 from_item : (s next : Progress) (i : Item) (at : ℕ) → item_step s i at ≡ Some next → next.at ≡ at
 unfolding item_step given_step move_step undone_step check_step
-from_item s next (Given row column digit) at e = ap (λ (n : Progress). n.at) (sym (picked _ _ next e).1)
+from_item s next (Given g) at e = ap (λ (n : Progress). n.at) (sym (picked _ _ next e).1)
 from_item s next (Played m) at e = ap (λ (n : Progress). n.at) (sym (picked _ _ next e).1)
 from_item s next (Undone n) at e = ap (λ (n : Progress). n.at) (sym (picked _ _ next e).1)
-from_item s next (Check standing row column digit) at e = ap (λ (n : Progress). n.at) (sym (picked _ _ next e).1)
+from_item s next (Check a) at e = ap (λ (n : Progress). n.at) (sym (picked _ _ next e).1)
 
 -- ---- a turn of the loop
 
@@ -359,11 +355,11 @@ going_room s n g h u = record { item = omega arith; givens = omega arith; moves 
 
 pub going_on : (s next : Progress) (i : Item) (at : ℕ) → item_step s i at ≡ Some next → s.at < at → Going s → Going next
 unfolding item_step given_step move_step undone_step check_step
-going_on s next (Given row column digit) at e u g =
+going_on s next (Given x) at e u g =
     subst Going (picked _ _ next e).1 (record { item = omega arith; givens = omega arith; moves = omega arith; checks = omega arith })
 going_on s next (Played m) at e u g =
     subst Going (picked _ _ next e).1 (record { item = omega arith; givens = omega arith; moves = omega arith; checks = omega arith })
 going_on s next (Undone n) at e u g =
     subst Going (picked _ _ next e).1 (record { item = omega arith; givens = omega arith; moves = omega arith; checks = omega arith })
-going_on s next (Check standing row column digit) at e u g =
+going_on s next (Check a) at e u g =
     subst Going (picked _ _ next e).1 (record { item = omega arith; givens = omega arith; moves = omega arith; checks = omega arith })

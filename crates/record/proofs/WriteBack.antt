@@ -85,7 +85,7 @@ taken_joins : (kind : ℕ) (l : List ℕ) → Each IsByte l → Joins (kind ∷ 
 unfolding Joins take_item encode Fits
 taken_joins kind l h =
     by_kind_lem (λ (t : Taken). Joins (kind ∷ l) t) kind _ _ _ _ _ _ _ _
-    (λ e. joins3 kind Given l h (λ a b c rest. (ap (λ (k : ℕ). k ∷ a ∷ b ∷ c ∷ rest) (sym e), tt)))
+    (λ e. joins3 kind _ l h (λ a b c rest. (ap (λ (k : ℕ). k ∷ a ∷ b ∷ c ∷ rest) (sym e), tt)))
     (λ e. joins3 kind _ l h (λ a b c rest. (ap (λ (k : ℕ). k ∷ a ∷ b ∷ c ∷ rest) (sym e), tt)))
     (λ e. joins2 kind _ l h (λ a b rest p q. (ap (λ (k : ℕ). k ∷ a ∷ b ∷ rest) (sym e), tt)))
     (λ e. joins3 kind _ l h (λ a b c rest. (ap (λ (k : ℕ). k ∷ a ∷ b ∷ c ∷ rest) (sym e), tt)))
@@ -153,13 +153,13 @@ checks_order : (n : ℕ) (is : Items) → scan 2 n is ≡ accepted
 unfolding parts_in add no_parts list_in check_item Whole reached may_stand
 checks_order n ended h = (refl, refl, refl)
 checks_order n cut h = absurd (formed_whole 2 n cut h)
-checks_order n (then (Given row column digit) is) h =
-    absurd (not_both_ways false (stands 2 n (Given row column digit) is h).0 refl)
+checks_order n (then (Given g) is) h =
+    absurd (not_both_ways false (stands 2 n (Given g) is h).0 refl)
 checks_order n (then (Played m) is) h = absurd (not_both_ways false (stands 2 n (Played m) is h).0 refl)
 checks_order n (then (Undone u) is) h = absurd (not_both_ways false (stands 2 n (Undone u) is h).0 refl)
-checks_order n (then (Check standing row column digit) is) h =
-    let r = checks_order (suc n) is (stands 2 n (Check standing row column digit) is h).1 in
-    (r.0, r.1, ap (λ (l : List Item). Check standing row column digit ∷ l) r.2)
+checks_order n (then (Check c) is) h =
+    let r = checks_order (suc n) is (stands 2 n (Check c) is h).1 in
+    (r.0, r.1, ap (λ (l : List Item). Check c ∷ l) r.2)
 
 -- the undone count and the checks
 undone_order : (phase n u : ℕ) (is : Items) → scan phase n (then (Undone u) is) ≡ accepted
@@ -176,16 +176,16 @@ moves_order : (n : ℕ) (is : Items) → scan 1 n is ≡ accepted
 unfolding parts_in add list_in Whole reached may_stand scan pick
 moves_order n ended h = absurd (refused_17 n h)
 moves_order n cut h = absurd (refused_17 n h)
-moves_order n (then (Given row column digit) is) h =
-    absurd (not_both_ways false (stands 1 n (Given row column digit) is h).0 refl)
+moves_order n (then (Given g) is) h =
+    absurd (not_both_ways false (stands 1 n (Given g) is h).0 refl)
 moves_order n (then (Played m) is) h =
     let r = moves_order (suc n) is (stands 1 n (Played m) is h).1 in
     (r.0, ap (λ (l : List Item). Played m ∷ l) r.1)
 moves_order n (then (Undone u) is) h =
     let r = undone_order 1 n u is h in
     (r.0, ap (λ (ms : List Move). map Played ms ++ Undone u ∷ map check_item (parts_in is).checks) r.1 ∙ r.2)
-moves_order n (then (Check standing row column digit) is) h =
-    absurd (not_both_ways false (stands 1 n (Check standing row column digit) is h).0 refl)
+moves_order n (then (Check c) is) h =
+    absurd (not_both_ways false (stands 1 n (Check c) is h).0 refl)
 
 -- from the beginning
 givens_order : (n : ℕ) (is : Items) → scan 0 n is ≡ accepted
@@ -195,9 +195,9 @@ givens_order : (n : ℕ) (is : Items) → scan 0 n is ≡ accepted
 unfolding parts_in add list_in given_item reached may_stand scan pick
 givens_order n ended h = absurd (refused_17 n h)
 givens_order n cut h = absurd (refused_17 n h)
-givens_order n (then (Given row column digit) is) h =
-    ap (λ (l : List Item). Given row column digit ∷ l)
-    (givens_order (suc n) is (stands 0 n (Given row column digit) is h).1)
+givens_order n (then (Given g) is) h =
+    ap (λ (l : List Item). Given g ∷ l)
+    (givens_order (suc n) is (stands 0 n (Given g) is h).1)
 givens_order n (then (Played m) is) h =
     let r = moves_order (suc n) is (stands 0 n (Played m) is h).1 in
     λ i.
@@ -205,8 +205,8 @@ givens_order n (then (Played m) is) h =
 givens_order n (then (Undone u) is) h =
     let r = undone_order 0 n u is h in
     λ i. map given_item (r.0 i) ++ (map Played (r.1 i) ++ r.2 i)
-givens_order n (then (Check standing row column digit) is) h =
-    absurd (not_both_ways false (stands 0 n (Check standing row column digit) is h).0 refl)
+givens_order n (then (Check c) is) h =
+    absurd (not_both_ways false (stands 0 n (Check c) is h).0 refl)
 
 -- ---- a record's bytes
 

@@ -15,13 +15,13 @@ use Rattle.journal.specs.declared.Asked.{Asked}
 
 -- the bytes of one item
 unfoldable pub encode : Item → List ℕ
-encode (Given row column digit) = given_kind ∷ row ∷ column ∷ digit ∷ []
+encode (Given g) = given_kind ∷ g.row ∷ g.column ∷ g.digit ∷ []
 encode (Played (Place row column digit)) = place_kind ∷ row ∷ column ∷ digit ∷ []
 encode (Played (Erase row column)) = erase_kind ∷ row ∷ column ∷ []
 encode (Played (WriteMark row column digit)) = write_kind ∷ row ∷ column ∷ digit ∷ []
 encode (Played (StrikeMark row column digit)) = strike_kind ∷ row ∷ column ∷ digit ∷ []
 encode (Undone n) = undone_kind ∷ low n ∷ second n ∷ []
-encode (Check standing row column digit) = check_kind ∷ low standing ∷ second standing ∷ row ∷ column ∷ digit ∷ []
+encode (Check c) = check_kind ∷ low c.standing ∷ second c.standing ∷ c.row ∷ c.column ∷ c.digit ∷ []
 
 -- the bytes of items, one after the other
 unfoldable pub encode_all : List Item → List ℕ
@@ -36,10 +36,10 @@ pub record Parts : Type 0 where
   pub checks : List Asked
 
 unfoldable pub given_item : Setters → Item
-given_item g = Given g.row g.column g.digit
+given_item g = Given g
 
 unfoldable pub check_item : Asked → Item
-check_item c = Check c.standing c.row c.column c.digit
+check_item c = Check c
 
 -- order: givens, moves, exactly one 6, checks
 unfoldable pub items_of : Parts → List Item

@@ -6,6 +6,7 @@ use Rattle.puzzle.specs.declared.Refusal.{Refusal}
 use Rattle.puzzle.specs.Refusals.{refusal, accepted}
 use Rattle.puzzle.specs.Givens.{given}
 use Rattle.journal.specs.declared.Move.TheVariants.{Place, Erase, WriteMark, StrikeMark}
+use Rattle.journal.specs.declared.Asked.{Asked}
 use Rattle.journal.specs.Bytes.{two}
 use Rattle.record.specs.declared.Item.{Item}
 use Rattle.record.specs.declared.Item.TheVariants.{Given, Played, Undone, Check}
@@ -15,6 +16,10 @@ use Rattle.record.specs.Items.{Parts}
 pub data Taken : Type 0 where
   got : Item → List ℕ → Taken
   broken : Taken
+
+-- a check with these four numbers
+abbrev pub asked : ℕ → ℕ → ℕ → ℕ → Asked
+asked standing row column digit = record { standing = standing; row = row; column = column; digit = digit }
 
 -- a body of two, of three and of five bytes
 unfoldable pub body2 : (ℕ → ℕ → Item) → List ℕ → Taken
@@ -47,12 +52,13 @@ by_kind kind a1 a2 a3 a4 a5 a6 a7 malformed =
 -- the item of a kind byte and the bytes after it
 unfoldable pub take_item : ℕ → List ℕ → Taken
 take_item kind bytes =
-    by_kind kind (body3 Given bytes) (body3 (λ row column digit. Played (Place row column digit)) bytes)
+    by_kind kind (body3 (λ row column digit. Given (given row column digit)) bytes)
+    (body3 (λ row column digit. Played (Place row column digit)) bytes)
     (body2 (λ row column. Played (Erase row column)) bytes)
     (body3 (λ row column digit. Played (WriteMark row column digit)) bytes)
     (body3 (λ row column digit. Played (StrikeMark row column digit)) bytes)
     (body2 (λ a b. Undone (two a b)) bytes)
-    (body5 (λ a b row column digit. Check (two a b) row column digit) bytes)
+    (body5 (λ a b row column digit. Check (asked (two a b) row column digit)) bytes)
     broken
 
 -- the items of some bytes, to their end or to what is no item or is cut short
@@ -79,17 +85,17 @@ items_of_bytes bytes = items_in (length bytes) bytes
 -- how far the record has come: 0 among the givens, 1 among the moves, 2 after the undone count.
 -- The group that an item belongs to, and how far the record is after it
 unfoldable pub reached : Item → ℕ
-reached (Given row column digit) = 0
+reached (Given g) = 0
 reached (Played m) = 1
 reached (Undone n) = 2
-reached (Check standing row column digit) = 2
+reached (Check c) = 2
 
 -- order: givens, moves, exactly one 6, checks
 unfoldable pub may_stand : ℕ → Item → Bool
-may_stand phase (Given row column digit) = eqb phase 0
+may_stand phase (Given g) = eqb phase 0
 may_stand phase (Played m) = leb phase 1
 may_stand phase (Undone n) = leb phase 1
-may_stand phase (Check standing row column digit) = eqb phase 2
+may_stand phase (Check c) = eqb phase 2
 
 -- 17 Record malformed: place being the first item that can't stand there or
 -- is cut short, or items plus one where the bytes end and kind 6 is missing
@@ -103,17 +109,10 @@ malformed bytes = scan 0 1 (items_of_bytes bytes)
 
 -- the parts with one item more in front
 unfoldable pub add : Item → Parts → Parts
-add (Given row column digit) p =
-    record { givens = given row column digit ∷ p.givens; moves = p.moves; undone = p.undone; checks = p.checks }
+add (Given g) p = record { givens = g ∷ p.givens; moves = p.moves; undone = p.undone; checks = p.checks }
 add (Played m) p = record { givens = p.givens; moves = m ∷ p.moves; undone = p.undone; checks = p.checks }
 add (Undone n) p = record { givens = p.givens; moves = p.moves; undone = n; checks = p.checks }
-add (Check standing row column digit) p =
-    record {
-      givens = p.givens;
-      moves = p.moves;
-      undone = p.undone;
-      checks = record { standing = standing; row = row; column = column; digit = digit } ∷ p.checks;
-    }
+add (Check c) p = record { givens = p.givens; moves = p.moves; undone = p.undone; checks = c ∷ p.checks }
 
 unfoldable pub no_parts : Parts
 no_parts = record { givens = []; moves = []; undone = 0; checks = [] }

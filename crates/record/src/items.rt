@@ -1,14 +1,13 @@
 // Items: what a kind byte decides, and what stands at an offset of a record's bytes.
 ghost use Rattle.std.specs.Prelude.{◌≡◌, ◌+◌, ◌≤◌, ◌<◌, length, drop, get_or};
+ghost use Rattle.puzzle.specs.Givens.{given};
 ghost use Rattle.journal.specs.Bytes.{two};
-ghost use Rattle.record.specs.declared.Item.TheVariants.{Given};
-ghost use Rattle.record.specs.Items.{check_item};
 ghost use Rattle.record.specs.Code.Counting.{shape_of, taken, read_of, move_at, asked_from, item_of};
 
 use crate::{Group, Item, Read, Shape};
 use journal::slots::move_of;
 use journal::{Asked, Move, Slot};
-use puzzle::byte_at;
+use puzzle::{Given, byte_at};
 
 // What the kind byte of an item decides; nothing where no item has the kind. A match on the byte with its ranges, as
 // the requirement has it (docs/CLAIMS.md, the forms that document 01 names).
@@ -80,49 +79,28 @@ pub fn asked_at(bytes: &[u8], at: usize) -> Asked
 }
 
 // The given whose kind byte stands at an offset.
-fn given_at(bytes: &[u8], at: usize) -> Item
+fn given_at(bytes: &[u8], at: usize) -> Given
     requires { at < length bytes.now }
-    ensures { result ≡ Given (get_or bytes.now (at + 1) 0) (get_or bytes.now (at + 2) 0) (get_or bytes.now (at + 3) 0) }
+    ensures { result ≡ given (get_or bytes.now (at + 1) 0) (get_or bytes.now (at + 2) 0) (get_or bytes.now (at + 3) 0) }
 {
-    Item::Given {
+    Given {
         row: byte_at(bytes, at + 1),
         column: byte_at(bytes, at + 2),
         digit: byte_at(bytes, at + 3),
     }
 }
 
-// A check as an item.
-impl From<Asked> for Item {
-    ghost from_gives = { λ c i. i ≡ check_item c };
-
-    #[tactic(auto, unfolding(crate::specs::Items::check_item))]
-    fn from(c: Asked) -> Item {
-        let Asked {
-            standing,
-            row,
-            column,
-            digit,
-        } = c;
-        Item::Check {
-            standing,
-            row,
-            column,
-            digit,
-        }
-    }
-}
-
 // The item of a group whose kind byte stands at an offset.
-#[tactic(auto, unfolding(crate::specs::Code::Counting::item_of))]
+#[tactic(auto, unfolding(crate::specs::Code::Counting::item_of, crate::specs::Items::check_item))]
 fn item_at(bytes: &[u8], at: usize, group: Group) -> Item
     requires { at < length bytes.now }
     ensures { result ≡ item_of bytes.now at group }
 {
     match group {
-        Group::Givens => given_at(bytes, at),
+        Group::Givens => Item::Given(given_at(bytes, at)),
         Group::Moves => Item::Played(move_at(bytes, at)),
         Group::Count => Item::Undone(two_at(bytes, at + 1)),
-        Group::Checks => asked_at(bytes, at).into(),
+        Group::Checks => Item::Check(asked_at(bytes, at)),
     }
 }
 

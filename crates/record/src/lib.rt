@@ -2,8 +2,8 @@
 // scanned and read back into items. Reopening them is defined here (specs/Reopen) and done in crate reopen.
 #![tactic(auto)]
 
-use journal::{MAX_CHECKS, MAX_MOVES, Move};
-use puzzle::Refusal;
+use journal::{Asked, MAX_CHECKS, MAX_MOVES, Move};
+use puzzle::{Given, Refusal};
 use sudoku::CELLS;
 
 pub mod error;
@@ -31,19 +31,10 @@ pub const RECORD_BYTES: usize = GIVEN_ITEM * (CELLS - 1)
 // An item of the record.
 #[derive(Clone, Copy)]
 pub enum Item {
-    Given {
-        row: u8,
-        column: u8,
-        digit: u8,
-    },
+    Given(Given),
     Played(Move),
     Undone(usize),
-    Check {
-        standing: usize,
-        row: u8,
-        column: u8,
-        digit: u8,
-    },
+    Check(Asked),
 }
 
 // What writing answers: the record's length in bytes; 0 beside a refusal.

@@ -22,41 +22,31 @@ fn counted(state: Progress, read: Read) -> Option<Progress>
     requires { Room state }
     ensures { result ≡ item_step state read.item read.next }
 {
-    let counts = state.counts;
-    let next = Progress {
+    let mut next = Progress {
         item: state.item + 1,
         at: read.next,
         ..state
     };
     match read.item {
-        Item::Given { .. } => (state.phase == Phase::Givens).then_some(Progress {
-            counts: Scanned {
-                givens: counts.givens + 1,
-                ..counts
-            },
-            ..next
-        }),
-        Item::Played(_) => (state.phase != Phase::Checks).then_some(Progress {
-            phase: Phase::Moves,
-            counts: Scanned {
-                moves: counts.moves + 1,
-                ..counts
-            },
-            ..next
-        }),
-        Item::Undone(undone) => (state.phase != Phase::Checks).then_some(Progress {
-            phase: Phase::Checks,
-            counts: Scanned { undone, ..counts },
-            ..next
-        }),
-        Item::Check { standing, .. } => (state.phase == Phase::Checks).then_some(Progress {
-            counts: Scanned {
-                checks: counts.checks + 1,
-                late: counts.late || standing > MAX_MOVES,
-                ..counts
-            },
-            ..next
-        }),
+        Item::Given(_) => {
+            next.counts.givens += 1;
+            (state.phase == Phase::Givens).then_some(next)
+        }
+        Item::Played(_) => {
+            next.phase = Phase::Moves;
+            next.counts.moves += 1;
+            (state.phase != Phase::Checks).then_some(next)
+        }
+        Item::Undone(undone) => {
+            next.phase = Phase::Checks;
+            next.counts.undone = undone;
+            (state.phase != Phase::Checks).then_some(next)
+        }
+        Item::Check(asked) => {
+            next.counts.checks += 1;
+            next.counts.late |= asked.standing > MAX_MOVES;
+            (state.phase == Phase::Checks).then_some(next)
+        }
     }
 }
 

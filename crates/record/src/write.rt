@@ -26,7 +26,7 @@ use journal::{
 };
 use play::sound::all_sound;
 use puzzle::answer::accepted;
-use puzzle::{Refusal, digit_at};
+use puzzle::{Given, Refusal, digit_at};
 use sudoku::{CELLS, column_of, row_of};
 
 // How many cells hold a given.
@@ -66,7 +66,7 @@ fn lay_item(item: Item, output: &mut [u8], at: usize) -> usize
     ensures { (result ≡ at + length (encode item)) × (output.new ≡ over output.old at (encode item)) }
 {
     match item {
-        Item::Given { row, column, digit } => lay(output, at, &[GIVEN, row, column, digit]),
+        Item::Given(Given { row, column, digit }) => lay(output, at, &[GIVEN, row, column, digit]),
         Item::Played(Move::Place { row, column, digit }) => lay(
             output,
             at,
@@ -87,14 +87,13 @@ fn lay_item(item: Item, output: &mut [u8], at: usize) -> usize
             let [low, second, ..] = n.to_le_bytes();
             lay(output, at, &[UNDONE, low, second])
         }
-        Item::Check {
-            standing,
-            row,
-            column,
-            digit,
-        } => {
-            let [low, second, ..] = standing.to_le_bytes();
-            lay(output, at, &[CHECK, low, second, row, column, digit])
+        Item::Check(asked) => {
+            let [low, second, ..] = asked.standing.to_le_bytes();
+            lay(
+                output,
+                at,
+                &[CHECK, low, second, asked.row, asked.column, asked.digit],
+            )
         }
     }
 }
@@ -108,12 +107,13 @@ fn lay_given(board: &Board, cell: usize, output: &mut [u8], at: usize) -> usize
     if !is_given(&board.given, cell) {
         return at;
     }
+    // row and column are at most 9, since the cell is at most 81: `try_from` would have a case that cannot come
     lay_item(
-        Item::Given {
+        Item::Given(Given {
             row: row_of(cell) as u8,
             column: column_of(cell) as u8,
             digit: digit_at(&board.digits, cell),
-        },
+        }),
         output,
         at,
     )
@@ -151,8 +151,9 @@ impl Stored for Move {
 impl Stored for Asked {
     ghost item_in = { check_in };
 
+    #[tactic(auto, unfolding(crate::specs::Items::check_item))]
     fn item_at(checks: &[u8], n: usize) -> Item {
-        check_at(checks, n).into()
+        Item::Check(check_at(checks, n))
     }
 }
 
@@ -200,6 +201,7 @@ impl<'a> Kept<'a> {
     fn moves_length(&self) -> usize
         ensures { (result ≡ length (moves_bytes self.now.journal.now self.now.board.now.made)) × (result ≤ 4 * self.now.board.now.made) }
     {
+        // A loop: by `map` and `sum` writing takes up to a tenth longer, and the proof is half as long again.
         let mut total = 0;
         for n in 1..=self.board.made {
             total += move_length(move_of(slot_at(self.journal, n)));

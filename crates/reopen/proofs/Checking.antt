@@ -21,7 +21,9 @@ use Rattle.puzzle.proofs.Accepted.{if_not}
 use Rattle.puzzle.proofs.Refusals.{refused_if_lem, or_else_by, or_else_passed, or_else_past}
 use Rattle.journal.specs.Limits.{check_item_bytes, check_bytes}
 use Rattle.journal.specs.StoredChecks.{is_right, judged, stored_bytes, stored_all}
-use Rattle.journal.proofs.Memory.{length_stored}
+use Rattle.journal.specs.Code.Laid.{laid}
+use Rattle.journal.proofs.Memory.{length_stored, stored_length}
+use Rattle.journal.proofs.Stores.{laid_over}
 use Rattle.board.specs.declared.Board.{Board}
 use Rattle.board.specs.Board.{state_of}
 use Rattle.journal.specs.declared.Asked.{Asked}
@@ -30,7 +32,7 @@ use Rattle.record.specs.Reopen.{to_play, check_refusal, checks_refusal}
 use Rattle.reopen.specs.Code.Reopening.{asks_at, asked_number}
 use Rattle.journal.specs.Bytes.{over}
 use Rattle.record.proofs.Givens.{count_not}
-use Rattle.record.proofs.Laying.{Laying, laying_end}
+use Rattle.record.proofs.Laying.{Laying, laying_room, laying_more, laying_end}
 
 -- ---- cells to play
 
@@ -147,6 +149,31 @@ module _ (bytes : List ℕ) (start count k : ℕ) (h : count + 1 ≤ k) where
   pub stored_ends : (solution : List ℕ) → stored_of solution (asks_left bytes start count k) ≡ []
   unfolding stored_all
   stored_ends solution = ap (stored_of solution) asks_none
+
+-- one more is tested and stored
+module _ (bytes : List ℕ) (start count k : ℕ) (b : Board) (cells : ℕ) (memory checks : List ℕ) (c : Asked) (from : 1 ≤ k) (h : k < count + 1)
+    (here : c ≡ asked_from bytes (start + check_item_bytes * (k - 1)))
+    (passed : accepted ≡ check_refusal b cells k c)
+    (tested : checks_refusal b cells 1 (asks_left bytes start count 1) ≡ checks_refusal b cells k (asks_left bytes start count k))
+    (stored : Laying memory 0 (stored_of b.solution (asks_left bytes start count 1)) checks (check_bytes * (k - 1)) (stored_of b.solution (asks_left bytes start count k))) where
+  abbrev one : List ℕ
+  one = stored_bytes (judged b.solution c)
+
+  turn : stored_of b.solution (asks_left bytes start count k) ≡ one ++ stored_of b.solution (asks_left bytes start count (k + 1))
+  turn = stored_turn bytes start count k b cells c h here
+
+  room : check_bytes * (k - 1) + length one ≤ length checks
+  room = laying_room _ _ _ _ _ _ stored one (stored_of b.solution (asks_left bytes start count (k + 1))) turn
+
+  pub one_more : (next : List ℕ) (at : ℕ) → at ≡ check_bytes * k → next ≡ laid checks (check_bytes * (k - 1)) one
+      → (checks_refusal b cells 1 (asks_left bytes start count 1) ≡ checks_refusal b cells (k + 1) (asks_left bytes start count (k + 1)))
+      × Laying memory 0 (stored_of b.solution (asks_left bytes start count 1)) next at (stored_of b.solution (asks_left bytes start count (k + 1)))
+  one_more next at e q = (
+    tested ∙ check_goes_on bytes start count k b cells c h here accepted passed refl,
+    laying_more _ _ _ _ _ _ stored one (stored_of b.solution (asks_left bytes start count (k + 1))) next at turn
+        (omega (arith, stored_length (judged b.solution c)))
+        (q ∙ laid_over checks (check_bytes * (k - 1)) one room),
+  )
 
 -- all are tested and stored
 module _ (bytes : List ℕ) (start count k : ℕ) (b : Board) (cells : ℕ) (memory checks : List ℕ) (at : ℕ) (h : count + 1 ≤ k) (c : cells ≡ to_play b)

@@ -3,33 +3,22 @@ ghost use Rattle.std.specs.Prelude.{◌<◌};
 
 use puzzle::Refusal;
 
-// What of a block is left to be read.
+// What of a block is left to be read; None once more was read than it has: it gives zeros and empty parts then.
 #[derive(Clone, Copy)]
 pub struct Block<'a> {
-    rest: &'a [u8],
-    // whether more was read than the block has: it gives zeros and empty parts then
-    is_short: bool,
+    rest: Option<&'a [u8]>,
 }
 
 impl<'a> Block<'a> {
     pub fn new(bytes: &'a [u8]) -> Block<'a> {
-        Block {
-            rest: bytes,
-            is_short: false,
-        }
+        Block { rest: Some(bytes) }
     }
 
     // The next bytes; none where there are not as many.
     pub fn bytes(&mut self, length: usize) -> &'a [u8] {
-        let (bytes, rest) = match self.rest.split_at_checked(length) {
-            Some(parts) => parts,
-            None => {
-                self.is_short = true;
-                (&[][..], &[][..])
-            }
-        };
-        self.rest = rest;
-        bytes
+        let parts = self.rest.and_then(|rest| rest.split_at_checked(length));
+        self.rest = parts.map(|(_, rest)| rest);
+        parts.map_or(&[], |(bytes, _)| bytes)
     }
 
     pub fn byte(&mut self) -> u8 {
@@ -73,6 +62,6 @@ impl<'a> Block<'a> {
 
     // Whether all of it was read, and no more.
     pub fn is_read(&self) -> bool {
-        self.rest.is_empty() && !self.is_short
+        self.rest.is_some_and(|rest| rest.is_empty())
     }
 }

@@ -22,7 +22,7 @@ use sudoku::{CELLS, SIDE};
 // Room for the answers to the calls of a session: no stored one has as many.
 const ANSWERS: usize = 16384;
 
-// A board and the memory that is lent to it.
+// A board and the memory that is lent to it. Not `files::Memory`: crate files would bring the console's printing along.
 #[derive(Drop)]
 struct Game {
     board: Board,
@@ -179,7 +179,7 @@ pub fn session(block: &mut Block, tally: &mut Tally) {
         journal,
         checks,
     };
-    if digit_at(&game.board.solution, 1) == 0 {
+    if opened.refusal.outcome().is_err() {
         return;
     }
     calls(block, &mut game, tally);

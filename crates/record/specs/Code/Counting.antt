@@ -5,6 +5,7 @@ use Rattle.std.specs.Prelude.{ℕ, ◌+◌, ◌^◌, ◌<◌, Bool, not, List, [
 use Rattle.sudoku.specs.Tests.{pick, both, either}
 use Rattle.puzzle.specs.declared.Refusal.{Refusal}
 use Rattle.puzzle.specs.Refusals.{refusal, refused_if, or_else}
+use Rattle.puzzle.specs.Givens.{given}
 use Rattle.journal.specs.declared.Move.{Move}
 use Rattle.journal.specs.Limits.{max_moves, max_checks}
 use Rattle.journal.specs.Bytes.{two}
@@ -73,7 +74,7 @@ asked_from bytes at =
 
 -- the item of a group whose kind byte stands at an offset
 unfoldable pub item_of : List ℕ → ℕ → Group → Item
-item_of bytes at Givens = Given (get_or bytes (at + 1) 0) (get_or bytes (at + 2) 0) (get_or bytes (at + 3) 0)
+item_of bytes at Givens = Given (given (get_or bytes (at + 1) 0) (get_or bytes (at + 2) 0) (get_or bytes (at + 3) 0))
 item_of bytes at Moves = Played (move_at bytes at)
 item_of bytes at Count = Undone (two (get_or bytes (at + 1) 0) (get_or bytes (at + 2) 0))
 item_of bytes at Checks = check_item (asked_from bytes at)
@@ -132,10 +133,10 @@ check_step s next standing =
     None
 
 unfoldable pub item_step : Progress → Item → ℕ → Option Progress
-item_step s (Given row column digit) next = given_step s next
+item_step s (Given g) next = given_step s next
 item_step s (Played m) next = move_step s next
 item_step s (Undone n) next = undone_step s next n
-item_step s (Check standing row column digit) next = check_step s next standing
+item_step s (Check c) next = check_step s next c.standing
 
 -- ---- the whole record
 

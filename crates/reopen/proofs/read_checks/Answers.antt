@@ -5,13 +5,10 @@ use mathlib.Core.Path.{◌≡◌, refl, sym, ap, ◌∙◌}
 use native.Mathlib.Omega.{arith}
 use Rattle.std.proofs.lemmas.Result.{err_from_is_err_and}
 use Rattle.journal.specs.Limits.{check_bytes}
-use Rattle.journal.specs.StoredChecks.{stored_bytes, judged}
-use Rattle.journal.proofs.Memory.{stored_length}
-use Rattle.journal.proofs.Stores.{laid_over}
 use Rattle.record.specs.Reopen.{to_play, checks_refusal}
 use Rattle.record.proofs.Errors.{reopen_numbered}
-use Rattle.record.proofs.Laying.{laying_start, laying_more}
-use Rattle.reopen.proofs.Checking.{asks_left, asks_all, stored_of, stored_size, stored_turn, check_stops, check_goes_on, all_tested, all_stored}
+use Rattle.record.proofs.Laying.{laying_start}
+use Rattle.reopen.proofs.Checking.{asks_left, asks_all, stored_of, stored_size, check_stops, one_more, all_tested, all_stored}
 use Rattle.reopen.proofs.read_checks.Goals as goal
 
 pub loop-k-init : goal.loop-k-init
@@ -34,17 +31,11 @@ returns-in_err-check_test-clause-refusal c =
     rw (p.1, p.2) (sym (all ∙ turn.invariant.0 ∙ stops))
 
 pub loop-k-preserved : goal.loop-k-preserved
-unfolding stored_bytes
 loop-k-preserved c =
     let a = c.args in
-    let b = a.board.now in
     let turn = c.loop-k in
     let asked = c.asked_at-asked in
-    let room : check_bytes * (turn.k - 1) + 6 ≡ check_bytes * turn.k = omega arith in
-    let on = check_goes_on a.bytes.now a.start a.count turn.k b c.to_play-cells.result asked.result (omega arith) asked.ensures _ c.in_ok-check_test.ensures refl in
-    let stored = c.store_check.ensures.1 ∙ laid_over _ _ _ (omega (arith, turn.invariant.1.same, c.requires.1, c.requires.2)) in
-    let more = laying_more _ _ _ _ _ _ turn.invariant.1 (stored_bytes (judged b.solution asked.result)) (stored_of b.solution (asks_left a.bytes.now a.start a.count (turn.k + 1))) _ _ (stored_turn a.bytes.now a.start a.count turn.k b c.to_play-cells.result asked.result (omega arith) asked.ensures) (omega (arith, stored_length (judged b.solution asked.result))) stored in
-    (turn.invariant.0 ∙ on, more)
+    one_more a.bytes.now a.start a.count turn.k a.board.now c.to_play-cells.result _ _ asked.result (omega arith) (omega arith) asked.ensures c.in_ok-check_test.ensures turn.invariant.0 turn.invariant.1 _ _ (omega arith) c.store_check.ensures.1
 
 pub shape_of-checks : goal.shape_of-checks
 shape_of-checks c =
@@ -62,18 +53,14 @@ returns c =
     }
 
 pub returns-in_ok-check_test : goal.returns-in_ok-check_test
-unfolding stored_bytes
 returns-in_ok-check_test c =
     let a = c.args in
     let b = a.board.now in
     let turn = c.loop-k in
     let asked = c.asked_at-asked in
-    let room : check_bytes * (turn.k - 1) + 6 ≡ check_bytes * turn.k = omega arith in
-    let on = check_goes_on a.bytes.now a.start a.count turn.k b c.to_play-cells.result asked.result (omega arith) asked.ensures _ c.in_ok-check_test.ensures refl in
-    let stored = c.store_check.ensures.1 ∙ laid_over _ _ _ (omega (arith, turn.invariant.1.same, c.requires.1, c.requires.2)) in
-    let more = laying_more _ _ _ _ _ _ turn.invariant.1 (stored_bytes (judged b.solution asked.result)) (stored_of b.solution (asks_left a.bytes.now a.start a.count (turn.k + 1))) _ _ (stored_turn a.bytes.now a.start a.count turn.k b c.to_play-cells.result asked.result (omega arith) asked.ensures) (omega (arith, stored_length (judged b.solution asked.result))) stored in
+    let more = one_more a.bytes.now a.start a.count turn.k b c.to_play-cells.result _ _ asked.result (omega arith) (omega arith) asked.ensures c.in_ok-check_test.ensures turn.invariant.0 turn.invariant.1 _ (check_bytes * turn.k) refl c.store_check.ensures.1 in
     let last : a.count + 1 ≤ turn.k + 1 = omega arith in
     record {
-      refusal = all_tested a.bytes.now a.start a.count (turn.k + 1) b _ _ _ (check_bytes * turn.k) last c.to_play-cells.ensures (turn.invariant.0 ∙ on) more;
-      stored = all_stored a.bytes.now a.start a.count (turn.k + 1) b _ _ _ (check_bytes * turn.k) last c.to_play-cells.ensures (turn.invariant.0 ∙ on) more;
+      refusal = all_tested a.bytes.now a.start a.count (turn.k + 1) b _ _ _ (check_bytes * turn.k) last c.to_play-cells.ensures more.0 more.1;
+      stored = all_stored a.bytes.now a.start a.count (turn.k + 1) b _ _ _ (check_bytes * turn.k) last c.to_play-cells.ensures more.0 more.1;
     }
