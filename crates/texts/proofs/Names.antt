@@ -1,6 +1,6 @@
 -- Texts that are the same, and what a name is of which that was found.
 -- Assumes nothing.
-use Rattle.std.proofs.Common.{◌≡◌, ℕ, true, List, length, get_or, sym, ap, ◌∙◌, arith, Decides, Option, unwrap_or}
+use Rattle.std.proofs.Common.{◌≡◌, ℕ, true, List, length, get_or, sym, ap, ◌∙◌, arith, Decides, Option, None, unwrap_or}
 use Rattle.std.specs.Option.{option_or}
 use Rattle.std.proofs.lemmas.Grind.{same_number_lists}
 use borrow.Author.Tests.{eq-eqb, eqb-true}
@@ -32,12 +32,12 @@ pub at_name : (f : List ℕ → Option Verb) (name known : List ℕ) (v : Option
 at_name f name known v h e = e ∙ sym (ap f (same_is name known h))
 
 -- what is found by one of two letters
-pub either_found : (one other : ℕ) → unwrap_or (option_or (found one) (found other)) (Unknown 0) ≡ verb_of_letter (pick (eqb one 0) other one)
+pub either_found : (one other : ℕ) → unwrap_or (option_or (found one) (found other)) (Unknown None) ≡ verb_of_letter (pick (eqb one 0) other one)
 unfolding found pick verb_of_letter
 either_found one other =
     by_test (eqb one 0)
     (λ e.
     by_test (eqb other 0)
-    (λ f. simp (e, f) (sym (ap verb_of_letter (eqb-true other 0 f))))
+    (λ f. simp (eqb-true one 0 e, eqb-true other 0 f))
     (λ f. simp (e, f)))
     (λ e. simp e)

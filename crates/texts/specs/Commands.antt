@@ -89,7 +89,8 @@ no_verb = 10
 unfoldable pub line_verb : List ℕ → ℕ
 line_verb name = pick (ltb 0 (length name)) (verb_of name) no_verb
 
--- the command of a letter; of another letter, and of the 0 of another name, an unknown one, which keeps it
+-- the command of a letter; of another letter an unknown one, which keeps it, and of the 0 of another name one without
+-- a letter
 unfoldable pub verb_of_letter : ℕ → Verb
 verb_of_letter letter =
     pick (eqb letter 112) Place
@@ -110,7 +111,8 @@ verb_of_letter letter =
     (pick (eqb letter 105) Line
     (pick (eqb letter 104) Help
     (pick (eqb letter 113) Quit
-    (pick (eqb letter no_verb) NoWord (Unknown letter)))))))))))))))))))
+    (pick (eqb letter no_verb) NoWord
+    (pick (eqb letter 0) (Unknown None) (Unknown (Some letter)))))))))))))))))))))
 
 -- the command of the letter of a name; none where no name was found
 unfoldable pub found : ℕ → Option Verb

@@ -98,7 +98,8 @@ fn verb_of_letter(letter: u8) -> Verb
         b'h' => Verb::Help,
         b'q' => Verb::Quit,
         b'\n' => Verb::NoWord,
-        _ => Verb::Unknown(letter),
+        0 => Verb::Unknown(None),
+        _ => Verb::Unknown(Some(letter)),
     }
 }
 
@@ -179,7 +180,7 @@ fn verb_of(name: &[u8]) -> Verb
         [letter] => verb_of_letter(*letter),
         _ => verb_of_play(name)
             .or(verb_of_rest(name))
-            .unwrap_or(Verb::Unknown(0)),
+            .unwrap_or(Verb::Unknown(None)),
     }
 }
 

@@ -14,8 +14,8 @@ pub enum CellsError {
     Few { count: usize },
 }
 
-// The commands of a player, and what stands for one where a line has no word, or one that is no command: its letter, or 0
-// for a longer word.
+// The commands of a player, and what stands for one where a line has no word, or one that is no command: of a word of
+// one letter that letter, and none of a longer word, or of the byte 0, which is no letter.
 #[derive(Clone, Copy, PartialEq, Eq)]
 pub enum Verb {
     Place,
@@ -37,7 +37,7 @@ pub enum Verb {
     Help,
     Quit,
     NoWord,
-    Unknown(u8),
+    Unknown(Option<u8>),
 }
 
 // A line taken apart: its command, how many words follow (four stand for more), and the first three of them, empty
