@@ -1,3 +1,4 @@
 pub mod Figures
 pub mod Grid
 pub mod Names
+pub mod Table
