@@ -8,8 +8,8 @@ ghost use Rattle.commands.specs.Perform.{narrowed, third_of, numbers_of, wanted_
 use crate::{Game, Numbers};
 use board::{Answer, Board};
 use files::disk::save;
-use journal::Move;
 use journal::slots::slot_at;
+use journal::{Asked, Move};
 use lines::{LINE_BYTES, write_line};
 use play::checks::check;
 use play::moves::play;
@@ -219,8 +219,13 @@ impl Game {
             return;
         }
         whole(self.board, self.coloured);
-        let digit = digit_at(&self.board.digits, cell_of(n.row, n.column));
-        verdict(self.board.standing, n.row, n.column, digit, answer.right);
+        let asked = Asked {
+            standing: self.board.standing,
+            row: n.row,
+            column: n.column,
+            digit: digit_at(&self.board.digits, cell_of(n.row, n.column)),
+        };
+        verdict(asked, answer.right);
     }
 
     // The latest standing move.
