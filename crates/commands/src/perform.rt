@@ -193,12 +193,10 @@ impl Game {
             want(verb);
             return;
         }
-        if verb == Verb::Undo {
-            let answer = undo(self.board, &self.memory.journal);
-            self.settle(answer);
-            return;
-        }
-        let answer = redo(self.board, &self.memory.journal);
+        let answer = match verb {
+            Verb::Undo => undo(self.board, &self.memory.journal),
+            _ => redo(self.board, &self.memory.journal),
+        };
         self.settle(answer);
     }
 
