@@ -1,3 +1,4 @@
+pub mod Behind
 pub mod Figures
 pub mod Grid
 pub mod Names

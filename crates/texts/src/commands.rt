@@ -2,9 +2,9 @@
 ghost use Rattle.std.specs.Prelude.{◌≡◌, ◌≤◌, not, eqb, length};
 ghost use Rattle.std.specs.List.{position_or_len};
 ghost use Rattle.sudoku.specs.Tests.{pick, either, both, bit};
-ghost use Rattle.texts.specs.Commands.{is_same, is_blank, word_of, behind_word, counted, with_figure, number_of, verb_of_play, verb_of_rest, verb_of, verb_of_letter, found, line_verb, request, command_of};
+ghost use Rattle.texts.specs.Commands.{is_same, is_blank, word_of, behind_word, said, said_of, with_figure, number_of, verb_of_play, verb_of_rest, verb_of, verb_of_letter, found, line_verb, request, command_of};
 
-use crate::{Command, Verb};
+use crate::{Command, Verb, Words};
 
 // Whether two texts are the same. The two sides of == have one type, which a text and a name have here.
 fn same(a: &[u8], b: &[u8]) -> bool
@@ -155,29 +155,37 @@ fn line_verb(name: &[u8]) -> Verb
     verb_of(name)
 }
 
-// 1 where a word is there, 0 where it is empty.
-#[tactic(auto, unfolding(crate::specs::Commands::counted, sudoku::specs::Tests::bit))]
-fn count(word: &[u8]) -> usize
-    ensures { (result ≡ counted word.now) × (result ≤ 1) }
+// The words of a text.
+fn words(text: &[u8]) -> Words<'_>
+    ensures { said result ≡ said_of text.now }
 {
-    usize::from(!word.is_empty())
+    let (one, rest) = word(text);
+    if one.is_empty() {
+        return Words::None;
+    }
+    let (two, rest) = word(rest);
+    if two.is_empty() {
+        return Words::One(one);
+    }
+    let (three, rest) = word(rest);
+    if three.is_empty() {
+        return Words::Two(one, two);
+    }
+    let (four, _) = word(rest);
+    if four.is_empty() {
+        return Words::Three(one, two, three);
+    }
+    Words::More(one, two, three)
 }
 
 // A line taken apart.
-#[tactic(auto, unfolding(crate::specs::Commands::command_of, crate::specs::Commands::command_after))]
+#[tactic(auto, unfolding(crate::specs::Commands::command_of, crate::specs::Commands::command_after, crate::specs::Commands::said_of))]
 pub fn taken_apart(line: &[u8]) -> Command<'_>
     ensures { request result ≡ command_of line.now }
 {
     let (name, rest) = word(line);
-    let (one, rest) = word(rest);
-    let (two, rest) = word(rest);
-    let (three, rest) = word(rest);
-    let (four, _) = word(rest);
     Command {
         verb: line_verb(name),
-        words: count(one) + count(two) + count(three) + count(four),
-        first: one,
-        second: two,
-        third: three,
+        words: words(rest),
     }
 }

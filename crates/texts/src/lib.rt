@@ -40,13 +40,19 @@ pub enum Verb {
     Unknown(Option<u8>),
 }
 
-// A line taken apart: its command, how many words follow (four stand for more), and the first three of them, empty
-// where they are not there.
+// The words that follow a command: no command wants more than three, and of more the first three are kept.
+#[derive(Clone, Copy)]
+pub enum Words<'a> {
+    None,
+    One(&'a [u8]),
+    Two(&'a [u8], &'a [u8]),
+    Three(&'a [u8], &'a [u8], &'a [u8]),
+    More(&'a [u8], &'a [u8], &'a [u8]),
+}
+
+// A line taken apart: its command, and the words that follow.
 #[derive(Clone, Copy)]
 pub struct Command<'a> {
     pub verb: Verb,
-    pub words: usize,
-    pub first: &'a [u8],
-    pub second: &'a [u8],
-    pub third: &'a [u8],
+    pub words: Words<'a>,
 }
