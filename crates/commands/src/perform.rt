@@ -2,7 +2,7 @@
 ghost use Rattle.std.specs.Prelude.{◌≡◌, [], unwrap_or};
 ghost use Rattle.sudoku.specs.Tests.{pick};
 ghost use Rattle.calls.specs.Encoded.{run_one};
-ghost use Rattle.texts.specs.declared.Verb.TheVariants as verb;
+ghost use Rattle.texts.specs.declared.Verb.TheVariants.{Open};
 ghost use Rattle.texts.specs.Commands.{request};
 ghost use Rattle.commands.specs.Perform.{narrowed, numbers_of, wanted_by, move_named, move_call, undo_call, check_call, played, Opens, puzzle_leaves, Performs};
 
@@ -80,7 +80,8 @@ Marks stand small, each at its own place.\n",
     );
 }
 
-// A number as a byte. What is no byte is no row, no column and no digit either, and 255 is none of these.
+// A number as a byte. What is no byte is no row, no column and no digit either, and 255 is none of these; not by `as`,
+// which would take 257 for 1.
 #[tactic(auto, unfolding(crate::specs::Perform::narrowed, sudoku::specs::Tests::pick))]
 fn narrow(n: usize) -> u8
     ensures { result ≡ narrowed n }
@@ -88,7 +89,7 @@ fn narrow(n: usize) -> u8
     u8::try_from(n).unwrap_or(255)
 }
 
-// The number of a command that wants one; none where it has not one word, or one that is no number.
+// The number of a command that wants one; none where it has not one word, or that is no number.
 fn one_number(command: Command<'_>) -> Option<usize> {
     match command.words {
         Words::One(word) => number(word),
@@ -96,7 +97,7 @@ fn one_number(command: Command<'_>) -> Option<usize> {
     }
 }
 
-// The numbers of a command that wants two; none where it has not two words, or one that is no number.
+// The numbers of a command that wants two, and 0 for a digit; none where it has not two words, or one is no number.
 #[tactic(auto, unfolding(crate::specs::Perform::numbers_of, crate::specs::Perform::third_of, crate::specs::Perform::are_numbers, crate::specs::Perform::narrowed, texts::specs::Commands::said, sudoku::specs::Tests::pick))]
 fn two_numbers(command: Command<'_>) -> Option<Numbers>
     ensures { result ≡ numbers_of (request command.entry) 2 }
@@ -310,9 +311,9 @@ impl Game {
         }
     }
 
-    // The file of a name, with that of another for the solution; with the solution that is played where that is empty.
+    // Opens a file, with the solution in another; with the solution that is played where the name of that is empty.
     fn open_files<R: Files>(&mut self, rt: &R, path: &[u8], solution: &[u8])
-        ensures left { Opens (record { verb = verb.Open; words = 2; first = path.now; second = solution.now; third = [] }) (played self.old) (played self.new) }
+        ensures left { Opens (record { verb = Open; words = 2; first = path.now; second = solution.now; third = [] }) (played self.old) (played self.new) }
         ensures coloured { self.new.coloured ≡ self.old.coloured }
     {
         let right = &self.board.solution;

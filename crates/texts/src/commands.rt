@@ -2,16 +2,9 @@
 ghost use Rattle.std.specs.Prelude.{◌≡◌, ◌≤◌, not, eqb, length};
 ghost use Rattle.std.specs.List.{position_or_len};
 ghost use Rattle.sudoku.specs.Tests.{pick, either, both, bit};
-ghost use Rattle.texts.specs.Commands.{is_same, is_blank, word_of, behind_word, said, said_of, with_figure, number_of, verb_of_play, verb_of_rest, verb_of, verb_of_letter, found, line_verb, request, command_of};
+ghost use Rattle.texts.specs.Commands.{is_blank, word_of, behind_word, said, said_of, with_figure, number_of, verb_of_play, verb_of_rest, verb_of, verb_of_letter, found, line_verb, request, command_of};
 
 use crate::{Command, Verb, Words};
-
-// Whether two texts are the same. The two sides of == have one type, which a text and a name have here.
-fn same(a: &[u8], b: &[u8]) -> bool
-    ensures { result ≡ is_same a.now b.now }
-{
-    a == b
-}
 
 // A blank, a tab, or what some systems put before a line's end.
 #[tactic(auto, unfolding(crate::specs::Commands::is_blank, sudoku::specs::Tests::either))]
@@ -125,12 +118,12 @@ const NAMES: [(&[u8], Verb); 18] = [
     (b"quit", Verb::Quit),
 ];
 
-// The command that a name says. By a table and not by a match on the name: its proof would have a goal for each byte at
-// which the names part.
+// The command that a name says. By a table and not by a match on the name, whose proof would have a goal for each byte
+// at which the names part.
 fn named(name: &[u8]) -> Option<Verb>
     ensures { result ≡ found (pick (eqb (verb_of_play name.now) 0) (verb_of_rest name.now) (verb_of_play name.now)) }
 {
-    let known = NAMES.iter().find(|known| same(name, known.0));
+    let known = NAMES.iter().find(|known| name == known.0);
     known.map(|known| known.1)
 }
 

@@ -40,7 +40,8 @@ pub enum Verb {
     Unknown(Option<u8>),
 }
 
-// The words that follow a command: no command wants more than three, and of more the first three are kept.
+// The words that follow a command. None wants more than three; of four or more the first three are kept, since a line
+// taken apart says which they are.
 #[derive(Clone, Copy)]
 pub enum Words<'a> {
     None,
