@@ -1,15 +1,18 @@
 -- What a command leaves, by its verb.
 -- Assumes nothing.
-use Rattle.std.proofs.Common.{◌≡◌, true, false, Option, None, refl, sym, ap, ◌∙◌}
+use Rattle.std.proofs.Common.{◌≡◌, ℕ, true, false, List, [], Bor, Option, None, refl, sym, ap, subst, ◌∙◌}
+use Rattle.sudoku.specs.Tests.{pick, both}
 use Rattle.sudoku.proofs.Walks.{pick_true, pick_false}
 use Rattle.calls.specs.declared.Call.{Call}
 use Rattle.calls.specs.Session.{Session, called}
 use Rattle.calls.specs.Encoded.{run_one}
 use Rattle.texts.specs.declared.Verb.{Verb}
 use Rattle.texts.specs.declared.Verb.TheVariants as verb
-use Rattle.texts.specs.Commands.{Request}
+use Rattle.texts.specs.declared.Words.{Words}
+use Rattle.texts.specs.declared.Words.TheVariants as words
+use Rattle.texts.specs.Commands.{Request, request, said}
 use Rattle.files.specs.Disk.{unread}
-use Rattle.commands.specs.Perform.{is_move, is_undo, is_check, is_open, is_puzzle, move_call, undo_call, check_call, command_call, puzzle_leaves, command_leaves, Opens, Performs}
+use Rattle.commands.specs.Perform.{is_move, is_undo, is_check, is_open, is_puzzle, move_call, undo_call, check_call, command_call, open_leaves, puzzle_leaves, command_leaves, Opens, Performs}
 
 -- a command that looks at no file
 module _ (c : Request) (before after : Session) where
@@ -85,3 +88,27 @@ pub no_puzzle : (v : Verb) → (v ≡ verb.Puzzle → ⊥) → is_puzzle v ≡ f
 unfolding is_puzzle
 no_puzzle verb.Puzzle n = absurd (n refl)
 no_puzzle _ n = refl
+
+-- ---- open, by its words
+
+abbrev asked : Verb → Words → Request
+asked v w = request (record { verb = v; words = w })
+
+module _ (v : Verb) (before after : Session) where
+  pub opens_one : (w : Words) (path : Bor (List ℕ)) → w ≡ words.One path → Opens (record { verb = verb.Open; words = 2; first = path.now; second = []; third = [] }) before after → Opens (asked v w) before after
+  unfolding open_leaves said pick both
+  opens_one w path e o =
+      subst (λ (x : Words). Opens (asked v x) before after) (sym e) (record { file = o.file; answers = o.answers; leaves = o.leaves })
+
+  pub opens_two : (w : Words) (path solution : Bor (List ℕ)) → w ≡ words.Two path solution → Opens (record { verb = verb.Open; words = 2; first = path.now; second = solution.now; third = [] }) before after → Opens (asked v w) before after
+  unfolding open_leaves said pick both
+  opens_two w path solution e o =
+      subst (λ (x : Words). Opens (asked v x) before after) (sym e) (record { file = o.file; answers = o.answers; leaves = o.leaves })
+
+pub opens_none : (v : Verb) (w : Words) (s : Session) → ((path : Bor (List ℕ)) → w ≡ words.One path → ⊥) → ((path solution : Bor (List ℕ)) → w ≡ words.Two path solution → ⊥) → Opens (asked v w) s s
+unfolding open_leaves said pick both
+opens_none v words.None s one two = record { file = unread; answers = unread; leaves = refl }
+opens_none v (words.One path) s one two = absurd (one path refl)
+opens_none v (words.Two path solution) s one two = absurd (two path solution refl)
+opens_none v (words.Three row column digit) s one two = record { file = unread; answers = unread; leaves = refl }
+opens_none v (words.More row column digit) s one two = record { file = unread; answers = unread; leaves = refl }

@@ -1,15 +1,16 @@
 // What each command does: one call of the library, and what it answers shown.
-ghost use Rattle.std.specs.Prelude.{◌≡◌, unwrap_or};
+ghost use Rattle.std.specs.Prelude.{◌≡◌, [], unwrap_or};
 ghost use Rattle.sudoku.specs.Tests.{pick};
 ghost use Rattle.calls.specs.Encoded.{run_one};
+ghost use Rattle.texts.specs.declared.Verb.TheVariants.{Open};
 ghost use Rattle.texts.specs.Commands.{request};
-ghost use Rattle.commands.specs.Perform.{narrowed, third_of, numbers_of, wanted_by, move_named, move_call, undo_call, check_call, played, Opens, puzzle_leaves, Performs};
+ghost use Rattle.commands.specs.Perform.{narrowed, numbers_of, wanted_by, move_named, move_call, undo_call, check_call, played, Opens, puzzle_leaves, Performs};
 
 use crate::{Game, Numbers};
 use board::{Answer, Board};
 use files::disk::save;
-use journal::Move;
 use journal::slots::slot_at;
+use journal::{Asked, Move};
 use lines::{LINE_BYTES, write_line};
 use play::checks::check;
 use play::moves::play;
@@ -24,7 +25,7 @@ use record::write::write;
 use std::rt::Files;
 use sudoku::cell_of;
 use texts::commands::number;
-use texts::{Command, Verb};
+use texts::{Command, Verb, Words};
 use undo::direction::{Again, Back};
 use undo::shown::slot_shown;
 use undo::{redo, undo};
@@ -80,7 +81,8 @@ Marks stand small, each at its own place.\n",
     );
 }
 
-// A number as a byte. What is no byte is no row, no column and no digit either, and 255 is none of these.
+// A number as a byte. What is no byte is no row, no column and no digit either, and 255 is none of these; not by `as`,
+// which would take 257 for 1.
 #[tactic(auto, unfolding(crate::specs::Perform::narrowed, sudoku::specs::Tests::pick))]
 fn narrow(n: usize) -> u8
     ensures { result ≡ narrowed n }
@@ -88,28 +90,42 @@ fn narrow(n: usize) -> u8
     u8::try_from(n).unwrap_or(255)
 }
 
-// The third number of a command, 0 where two are wanted.
-#[tactic(auto, unfolding(crate::specs::Perform::third_of, sudoku::specs::Tests::pick))]
-fn third(command: Command<'_>, wanted: usize) -> Option<usize>
-    ensures { result ≡ third_of (request command.entry) wanted }
-{
-    if wanted == 3 {
-        return number(command.third);
+// The number of a command that wants one; none where it has not one word, or that is no number.
+fn one_number(command: Command<'_>) -> Option<usize> {
+    match command.words {
+        Words::One(word) => number(word),
+        _ => None,
     }
-    Some(0)
 }
 
-// The numbers of a command that wants two or three; none where it has not as many words, or one that is no number.
-#[tactic(auto, unfolding(crate::specs::Perform::numbers_of, crate::specs::Perform::are_numbers, sudoku::specs::Tests::pick))]
-fn numbers(command: Command<'_>, wanted: usize) -> Option<Numbers>
-    ensures { result ≡ numbers_of (request command.entry) wanted }
+// The numbers of a command that wants two, and 0 for a digit; none where it has not two words, or one is no number.
+#[tactic(auto, unfolding(crate::specs::Perform::numbers_of, crate::specs::Perform::third_of, crate::specs::Perform::are_numbers, crate::specs::Perform::narrowed, texts::specs::Commands::said, sudoku::specs::Tests::pick))]
+fn two_numbers(command: Command<'_>) -> Option<Numbers>
+    ensures { result ≡ numbers_of (request command.entry) 2 }
 {
-    if command.words != wanted {
+    let Words::Two(row, column) = command.words else {
         return None;
-    }
-    let row = number(command.first)?;
-    let column = number(command.second)?;
-    let digit = third(command, wanted)?;
+    };
+    let row = number(row)?;
+    let column = number(column)?;
+    Some(Numbers {
+        row: narrow(row),
+        column: narrow(column),
+        digit: 0,
+    })
+}
+
+// The same of a command that wants three.
+#[tactic(auto, unfolding(crate::specs::Perform::numbers_of, crate::specs::Perform::third_of, crate::specs::Perform::are_numbers, texts::specs::Commands::said, sudoku::specs::Tests::pick))]
+fn three_numbers(command: Command<'_>) -> Option<Numbers>
+    ensures { result ≡ numbers_of (request command.entry) 3 }
+{
+    let Words::Three(row, column, digit) = command.words else {
+        return None;
+    };
+    let row = number(row)?;
+    let column = number(column)?;
+    let digit = number(digit)?;
     Some(Numbers {
         row: narrow(row),
         column: narrow(column),
@@ -117,14 +133,14 @@ fn numbers(command: Command<'_>, wanted: usize) -> Option<Numbers>
     })
 }
 
-// How many numbers a move wants.
+// The numbers of a move: erase wants two, any other three.
 #[tactic(auto, unfolding(crate::specs::Perform::wanted_by))]
-fn move_words(verb: Verb) -> usize
-    ensures { result ≡ wanted_by verb }
+fn numbers(command: Command<'_>) -> Option<Numbers>
+    ensures { result ≡ numbers_of (request command.entry) (wanted_by command.entry.verb) }
 {
-    match verb {
-        Verb::Erase => 2,
-        _ => 3,
+    match command.verb {
+        Verb::Erase => two_numbers(command),
+        _ => three_numbers(command),
     }
 }
 
@@ -175,7 +191,7 @@ impl Game {
         ensures coloured { self.new.coloured ≡ self.old.coloured }
     {
         let verb = command.verb;
-        let Some(n) = numbers(command, move_words(verb)) else {
+        let Some(n) = numbers(command) else {
             want(verb);
             return;
         };
@@ -184,22 +200,20 @@ impl Game {
     }
 
     // Undo and redo.
-    #[tactic(auto, unfolding(crate::specs::Perform::undo_call, crate::specs::Perform::step_named, sudoku::specs::Tests::pick, calls::specs::Encoded::run_one, calls::specs::Session::call_of, calls::specs::Session::called))]
+    #[tactic(auto, unfolding(crate::specs::Perform::undo_call, crate::specs::Perform::step_named, texts::specs::Commands::said, sudoku::specs::Tests::pick, calls::specs::Encoded::run_one, calls::specs::Session::call_of, calls::specs::Session::called))]
     fn step(&mut self, command: Command<'_>)
         ensures left { played self.new ≡ (run_one (played self.old) (undo_call (request command.entry))).left }
         ensures coloured { self.new.coloured ≡ self.old.coloured }
     {
         let verb = command.verb;
-        if command.words != 0 {
+        let Words::None = command.words else {
             want(verb);
             return;
-        }
-        if verb == Verb::Undo {
-            let answer = undo(self.board, &self.memory.journal);
-            self.settle(answer);
-            return;
-        }
-        let answer = redo(self.board, &self.memory.journal);
+        };
+        let answer = match verb {
+            Verb::Undo => undo(self.board, &self.memory.journal),
+            _ => redo(self.board, &self.memory.journal),
+        };
         self.settle(answer);
     }
 
@@ -209,7 +223,7 @@ impl Game {
         ensures left { played self.new ≡ (run_one (played self.old) (check_call (request command.entry))).left }
         ensures coloured { self.new.coloured ≡ self.old.coloured }
     {
-        let Some(n) = numbers(command, 2) else {
+        let Some(n) = two_numbers(command) else {
             want(command.verb);
             return;
         };
@@ -220,8 +234,13 @@ impl Game {
             return;
         }
         whole(self.board, self.coloured);
-        let digit = digit_at(&self.board.digits, cell_of(n.row, n.column));
-        verdict(self.board.standing, n.row, n.column, digit, answer.right);
+        let asked = Asked {
+            standing: self.board.standing,
+            row: n.row,
+            column: n.column,
+            digit: digit_at(&self.board.digits, cell_of(n.row, n.column)),
+        };
+        verdict(asked, answer.right);
     }
 
     // The latest standing move.
@@ -246,7 +265,7 @@ impl Game {
 
     // The reading of move k.
     fn read_move(&self, command: Command<'_>) {
-        let Some(k) = number(command.first).filter(|_| command.words == 1) else {
+        let Some(k) = one_number(command) else {
             want(Verb::Move);
             return;
         };
@@ -261,10 +280,10 @@ impl Game {
 
     // Saves the game under a name.
     fn save<R: Files>(&self, rt: &R, command: Command<'_>) {
-        if command.words != 1 {
+        let Words::One(path) = command.words else {
             want(Verb::Save);
             return;
-        }
+        };
         let mut out = [0u8; RECORD_BYTES];
         let written = write(
             self.board,
@@ -277,12 +296,8 @@ impl Game {
             return;
         }
         let record = out.get(..written.length).unwrap_or(&[]);
-        if save(rt, command.first, record) {
-            show(format_args!(
-                "saved in {}, {} bytes\n",
-                Printable(command.first),
-                written.length
-            ));
+        if save(rt, path, record) {
+            show(format_args!("saved in {}, {} bytes\n", Printable(path), written.length));
         }
     }
 
@@ -297,31 +312,39 @@ impl Game {
         }
     }
 
+    // Opens a file, with the solution in another; with the solution that is played where the name of that is empty.
+    fn open_files<R: Files>(&mut self, rt: &R, path: &[u8], solution: &[u8])
+        ensures left { Opens (record { verb = Open; words = 2; first = path.now; second = solution.now; third = [] }) (played self.old) (played self.new) }
+        ensures coloured { self.new.coloured ≡ self.old.coloured }
+    {
+        let right = &self.board.solution;
+        let loaded = self.memory.load(rt, path, solution, right);
+        self.take_up(loaded);
+    }
+
     // A file, and another for the solution where a second word names one.
     fn open<R: Files>(&mut self, rt: &R, command: Command<'_>)
         ensures left { Opens (request command.entry) (played self.old) (played self.new) }
         ensures coloured { self.new.coloured ≡ self.old.coloured }
     {
-        if command.words < 1 || command.words > 2 {
-            want(Verb::Open);
-            return;
+        match command.words {
+            Words::One(path) => self.open_files(rt, path, b""),
+            Words::Two(path, solution) => self.open_files(rt, path, solution),
+            _ => want(Verb::Open),
         }
-        let right = &self.board.solution;
-        let loaded = self.memory.load(rt, command.first, command.second, right);
-        self.take_up(loaded);
     }
 
     // A mailed line and the line of its solution, as two words.
-    #[tactic(auto, unfolding(crate::specs::Perform::puzzle_leaves, crate::specs::Perform::taken_up, sudoku::specs::Tests::pick))]
+    #[tactic(auto, unfolding(crate::specs::Perform::puzzle_leaves, crate::specs::Perform::taken_up, texts::specs::Commands::said, sudoku::specs::Tests::pick))]
     fn open_line(&mut self, command: Command<'_>)
         ensures left { played self.new ≡ puzzle_leaves (request command.entry) (played self.old) }
         ensures coloured { self.new.coloured ≡ self.old.coloured }
     {
-        if command.words != 2 {
+        let Words::Two(line, solution) = command.words else {
             want(Verb::Puzzle);
             return;
-        }
-        let loaded = self.memory.load_line(command.first, command.second);
+        };
+        let loaded = self.memory.load_line(line, solution);
         self.take_up(loaded);
     }
 
@@ -339,11 +362,11 @@ impl Game {
 
     // The commands that show something and change nothing.
     fn show(&self, command: Command<'_>) {
-        match command.verb {
-            Verb::Move => self.read_move(command),
-            Verb::Unknown(_) => show("no such command: help lists them\n"),
-            verb if command.words != 0 => want(verb),
-            verb => self.show_alone(verb),
+        match (command.verb, command.words) {
+            (Verb::Move, _) => self.read_move(command),
+            (Verb::Unknown(_), _) => show("no such command: help lists them\n"),
+            (verb, Words::None) => self.show_alone(verb),
+            (verb, _) => want(verb),
         }
     }
 }

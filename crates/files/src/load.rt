@@ -117,7 +117,7 @@ impl Memory {
                 self.take_up(answer, &own)
             }
             Err(error) => {
-                explain_line(error.into(), line);
+                explain_line(error, line);
                 None
             }
         }
@@ -133,7 +133,7 @@ impl Memory {
             Ok(right) => self.open_line(line, &right),
             Err(error) => {
                 show("the solution's line is ");
-                explain_line(error.into(), solution);
+                explain_line(error, solution);
                 None
             }
         }

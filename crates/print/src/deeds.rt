@@ -1,7 +1,7 @@
 // Moves and checks, each on a line of its own.
 use crate::{Count, show};
 use journal::slots::move_of;
-use journal::{Move, Slot};
+use journal::{Asked, Move, Slot};
 use std::fmt;
 use std::fmt::Display;
 use sudoku::{cell_of, column_of, peers, row_of};
@@ -85,7 +85,13 @@ pub fn made(n: usize, slot: Slot, undone: bool) {
 }
 
 // A check on a line of its own, with its verdict.
-pub fn verdict(standing: usize, row: u8, column: u8, digit: u8, right: bool) {
+pub fn verdict(asked: Asked, right: bool) {
+    let Asked {
+        standing,
+        row,
+        column,
+        digit,
+    } = asked;
     let at = At { row, column };
     let verdict = if right { "right" } else { "wrong" };
     let moves = Count {

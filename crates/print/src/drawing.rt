@@ -31,7 +31,8 @@ fn paint(signs: &[u8; SIZE], colours: &[Colour; SIZE]) {
     escape(Colour::Plain);
 }
 
-// The drawn board of some digits, givens and notes.
+// The drawn board of some digits, givens and notes. A bool says whether it is coloured, here and in `whole`: the same
+// signs are written either way, and no other step hangs on it.
 pub fn position<'a>(
     digits: &'a [u8; 81],
     given: &'a [u8; 81],

@@ -46,10 +46,10 @@ fn checks_stored(n: usize, checks: &[u8; CHECK_MEMORY]) {
     };
     show(format_args!("{asked}\n"));
     for i in 1..=n.min(MAX_CHECKS) {
-        let check = check_at(checks, i);
+        // the verdict is a byte of lent memory, which may hold any; of a record that reopened it is 0 or 1
         let right = verdict_at(checks, i) == 1;
         show(format_args!("check {i}: "));
-        verdict(check.standing, check.row, check.column, check.digit, right);
+        verdict(check_at(checks, i), right);
     }
 }
 

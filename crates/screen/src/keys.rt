@@ -30,6 +30,7 @@ fn key_sign(digits: &[u8; 81], n: usize) -> u8
     } else if n == 56 {
         b'\n'
     } else {
+        // by `as`: n is below 57, so the key is at most 9, and `try_from` would have a case that cannot come
         key_part(digits, ((n - 11) / 5 + 1) as u8, (n - 11) % 5)
     }
 }

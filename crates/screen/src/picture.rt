@@ -111,7 +111,8 @@ fn placed(y: u8, x: u8) -> Spot
     }
 }
 
-// What character n of the drawn board shows.
+// What character n of the drawn board shows. By `as`: n is below 2379, so neither its line nor its column is above 60,
+// and `try_from` would have a case that cannot come.
 fn spot_at(n: usize) -> Spot
     requires { n < size }
     ensures { result ≡ placed_at (n / width) (n % width) }

@@ -18,7 +18,8 @@ pub struct Input {
     end: usize,
 }
 
-// A line, in the first bytes of its memory; one longer than the memory where a byte found no room.
+// A line, in the first bytes of its memory. Where a byte found no room, the length is one more than the memory has, so
+// that `get` answers none; an enum around the memory would be taken apart and made anew at each byte.
 #[derive(Clone, Copy)]
 pub struct Line {
     memory: [u8; LINE_BYTES],

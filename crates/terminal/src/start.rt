@@ -12,7 +12,7 @@ use print::{Printable, show};
 use std::io::IsTerminal;
 use texts::commands::taken_apart;
 use texts::grids::grid;
-use texts::{Command, Verb};
+use texts::{Command, Verb, Words};
 
 // The solution of the puzzle that is built in.
 fn built_in_solution() -> [u8; 81] {
@@ -32,7 +32,7 @@ fn built_in(memory: &mut Memory) -> Board {
 }
 
 fn is_quit(command: Command<'_>) -> bool {
-    command.words == 0 && command.verb == Verb::Quit
+    matches!((command.verb, command.words), (Verb::Quit, Words::None))
 }
 
 // What goes from one line to the next.

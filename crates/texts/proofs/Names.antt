@@ -1,13 +1,11 @@
 -- Texts that are the same, and what a name is of which that was found.
 -- Assumes nothing.
-use Rattle.std.proofs.Common.{◌≡◌, ℕ, true, List, length, get_or, sym, ap, ◌∙◌, arith, Decides, Option, unwrap_or}
-use Rattle.std.specs.Option.{option_or}
+use Rattle.std.proofs.Common.{◌≡◌, ℕ, true, List, length, get_or, ap, arith, Decides, None, unwrap_or}
 use Rattle.std.proofs.lemmas.Grind.{same_number_lists}
 use borrow.Author.Tests.{eq-eqb, eqb-true}
 use lib.Dec.{eqb}
 use Rattle.sudoku.specs.Tests.{pick}
 use Rattle.sudoku.proofs.Walks.{both_true, both_left, both_right, every_at, every_of, by_test}
-use Rattle.texts.specs.declared.Verb.{Verb}
 use Rattle.texts.specs.declared.Verb.TheVariants.{Unknown}
 use Rattle.texts.specs.Commands.{is_same, verb_of_letter, found}
 
@@ -27,17 +25,7 @@ is_same_of a b e =
 pub is_same-Decides : (a b : List ℕ) → Decides (is_same a b) (a ≡ b)
 is_same-Decides a b = (same_is a b, is_same_of a b)
 
--- what is so of a name is so of every text that is the same
-pub at_name : (f : List ℕ → Option Verb) (name known : List ℕ) (v : Option Verb) → is_same name known ≡ true → v ≡ f known → v ≡ f name
-at_name f name known v h e = e ∙ sym (ap f (same_is name known h))
-
--- what is found by one of two letters
-pub either_found : (one other : ℕ) → unwrap_or (option_or (found one) (found other)) (Unknown 0) ≡ verb_of_letter (pick (eqb one 0) other one)
+-- the command of what was found, and an unknown one where no name was
+pub found_or_unknown : (letter : ℕ) → unwrap_or (found letter) (Unknown None) ≡ verb_of_letter letter
 unfolding found pick verb_of_letter
-either_found one other =
-    by_test (eqb one 0)
-    (λ e.
-    by_test (eqb other 0)
-    (λ f. simp (e, f) (sym (ap verb_of_letter (eqb-true other 0 f))))
-    (λ f. simp (e, f)))
-    (λ e. simp e)
+found_or_unknown letter = by_test (eqb letter 0) (λ e. simp (eqb-true letter 0 e)) (λ e. simp e)

@@ -5,6 +5,8 @@ use Rattle.std.specs.List.{position_or_len}
 use Rattle.sudoku.specs.Tests.{pick, both, either, bit, every, ◌⇒◌, first}
 use Rattle.texts.specs.declared.Verb.{Verb}
 use Rattle.texts.specs.declared.Verb.TheVariants.{Place, Erase, Mark, Strike, Undo, Redo, Check, Latest, Next, Move, Left, Board, Save, Open, Puzzle, Line, Help, Quit, NoWord, Unknown}
+use Rattle.texts.specs.declared.Words.{Words}
+use Rattle.texts.specs.declared.Words.TheVariants as words
 use Rattle.texts.specs.declared.Command.{Command}
 
 -- two texts are the same
@@ -89,7 +91,8 @@ no_verb = 10
 unfoldable pub line_verb : List ℕ → ℕ
 line_verb name = pick (ltb 0 (length name)) (verb_of name) no_verb
 
--- the command of a letter; of another letter, and of the 0 of another name, an unknown one, which keeps it
+-- the command of a letter; of another letter an unknown one, which keeps it, and of the 0 of another name one without
+-- a letter
 unfoldable pub verb_of_letter : ℕ → Verb
 verb_of_letter letter =
     pick (eqb letter 112) Place
@@ -110,7 +113,8 @@ verb_of_letter letter =
     (pick (eqb letter 105) Line
     (pick (eqb letter 104) Help
     (pick (eqb letter 113) Quit
-    (pick (eqb letter no_verb) NoWord (Unknown letter)))))))))))))))))))
+    (pick (eqb letter no_verb) NoWord
+    (pick (eqb letter 0) (Unknown None) (Unknown (Some letter)))))))))))))))))))))
 
 -- the command of the letter of a name; none where no name was found
 unfoldable pub found : ℕ → Option Verb
@@ -124,8 +128,35 @@ pub record Request : Type 0 where
   pub second : List ℕ
   pub third : List ℕ
 
+-- what the words behind a command say: how many there are, 4 where there are more than three, and the first three of
+-- them, [] for each that is not there
+pub record Said : Type 0 where
+  pub count : ℕ
+  pub first : List ℕ
+  pub second : List ℕ
+  pub third : List ℕ
+
+abbrev pub said_as : ℕ → List ℕ → List ℕ → List ℕ → Said
+said_as count first second third = record { count = count; first = first; second = second; third = third }
+
+unfoldable pub said : Words → Said
+said words.None = said_as 0 [] [] []
+said (words.One one) = said_as 1 one.now [] []
+said (words.Two one two) = said_as 2 one.now two.now []
+said (words.Three one two three) = said_as 3 one.now two.now three.now
+said (words.More one two three) = said_as 4 one.now two.now three.now
+
 abbrev pub request : Command → Request
-request c = record { verb = c.verb; words = c.words; first = c.first.now; second = c.second.now; third = c.third.now }
+request c =
+    record { verb = c.verb; words = (said c.words).count; first = (said c.words).first; second = (said c.words).second; third = (said c.words).third }
+
+-- what the words of a text say
+unfoldable pub said_of : List ℕ → Said
+said_of text =
+    let behind_one = behind_word text in
+    let behind_two = behind_word behind_one in
+    let behind_three = behind_word behind_two in
+    said_as (counted (word_of text) + counted (word_of behind_one) + counted (word_of behind_two) + counted (word_of behind_three)) (word_of text) (word_of behind_one) (word_of behind_two)
 
 -- the command that a line is, with the words that follow its first, of which at most four count
 unfoldable pub command_after : List ℕ → List ℕ → List ℕ → List ℕ → List ℕ → Request

@@ -1,17 +1,10 @@
 // A line taken apart into its command and the words after it.
-ghost use Rattle.std.specs.Prelude.{◌≡◌, ◌≤◌, not, length};
+ghost use Rattle.std.specs.Prelude.{◌≡◌, ◌≤◌, not, eqb, length};
 ghost use Rattle.std.specs.List.{position_or_len};
 ghost use Rattle.sudoku.specs.Tests.{pick, either, both, bit};
-ghost use Rattle.texts.specs.Commands.{is_same, is_blank, word_of, behind_word, counted, with_figure, number_of, verb_of_play, verb_of_rest, verb_of, verb_of_letter, found, line_verb, request, command_of};
+ghost use Rattle.texts.specs.Commands.{is_blank, word_of, behind_word, said, said_of, with_figure, number_of, verb_of_play, verb_of_rest, verb_of, verb_of_letter, found, line_verb, request, command_of};
 
-use crate::{Command, Verb};
-
-// Whether two texts are the same. The two sides of == have one type, which a text and a name have here.
-fn same(a: &[u8], b: &[u8]) -> bool
-    ensures { result ≡ is_same a.now b.now }
-{
-    a == b
-}
+use crate::{Command, Verb, Words};
 
 // A blank, a tab, or what some systems put before a line's end.
 #[tactic(auto, unfolding(crate::specs::Commands::is_blank, sudoku::specs::Tests::either))]
@@ -98,77 +91,40 @@ fn verb_of_letter(letter: u8) -> Verb
         b'h' => Verb::Help,
         b'q' => Verb::Quit,
         b'\n' => Verb::NoWord,
-        _ => Verb::Unknown(letter),
+        0 => Verb::Unknown(None),
+        _ => Verb::Unknown(Some(letter)),
     }
 }
 
-// The command of play that a name says. Not by a match on the name: its proof would have a goal for each byte at which
-// the names part.
-fn verb_of_play(name: &[u8]) -> Option<Verb>
-    ensures { result ≡ found (verb_of_play name.now) }
-{
-    if same(name, b"place") {
-        return Some(Verb::Place);
-    }
-    if same(name, b"erase") {
-        return Some(Verb::Erase);
-    }
-    if same(name, b"mark") {
-        return Some(Verb::Mark);
-    }
-    if same(name, b"strike") {
-        return Some(Verb::Strike);
-    }
-    if same(name, b"undo") {
-        return Some(Verb::Undo);
-    }
-    if same(name, b"redo") {
-        return Some(Verb::Redo);
-    }
-    if same(name, b"check") {
-        return Some(Verb::Check);
-    }
-    None
-}
+// The commands by their names: those of play, and the others.
+const NAMES: [(&[u8], Verb); 18] = [
+    (b"place", Verb::Place),
+    (b"erase", Verb::Erase),
+    (b"mark", Verb::Mark),
+    (b"strike", Verb::Strike),
+    (b"undo", Verb::Undo),
+    (b"redo", Verb::Redo),
+    (b"check", Verb::Check),
+    (b"latest", Verb::Latest),
+    (b"next", Verb::Next),
+    (b"move", Verb::Move),
+    (b"left", Verb::Left),
+    (b"board", Verb::Board),
+    (b"save", Verb::Save),
+    (b"open", Verb::Open),
+    (b"puzzle", Verb::Puzzle),
+    (b"line", Verb::Line),
+    (b"help", Verb::Help),
+    (b"quit", Verb::Quit),
+];
 
-// The command that a name says of those that show something, and of those for files and lines.
-fn verb_of_rest(name: &[u8]) -> Option<Verb>
-    ensures { result ≡ found (verb_of_rest name.now) }
+// The command that a name says. By a table and not by a match on the name, whose proof would have a goal for each byte
+// at which the names part.
+fn named(name: &[u8]) -> Option<Verb>
+    ensures { result ≡ found (pick (eqb (verb_of_play name.now) 0) (verb_of_rest name.now) (verb_of_play name.now)) }
 {
-    if same(name, b"latest") {
-        return Some(Verb::Latest);
-    }
-    if same(name, b"next") {
-        return Some(Verb::Next);
-    }
-    if same(name, b"move") {
-        return Some(Verb::Move);
-    }
-    if same(name, b"left") {
-        return Some(Verb::Left);
-    }
-    if same(name, b"board") {
-        return Some(Verb::Board);
-    }
-    if same(name, b"save") {
-        return Some(Verb::Save);
-    }
-    if same(name, b"open") {
-        return Some(Verb::Open);
-    }
-    if same(name, b"puzzle") {
-        return Some(Verb::Puzzle);
-    }
-    if same(name, b"line") {
-        return Some(Verb::Line);
-    }
-    if same(name, b"help") {
-        return Some(Verb::Help);
-    }
-    if same(name, b"quit") {
-        return Some(Verb::Quit);
-    }
-    None
+    let known = NAMES.iter().find(|known| name == known.0);
+    known.map(|known| known.1)
 }
 
 // The command of a name: a name of one letter is itself the letter.
@@ -177,9 +133,7 @@ fn verb_of(name: &[u8]) -> Verb
 {
     match name {
         [letter] => verb_of_letter(*letter),
-        _ => verb_of_play(name)
-            .or(verb_of_rest(name))
-            .unwrap_or(Verb::Unknown(0)),
+        _ => named(name).unwrap_or(Verb::Unknown(None)),
     }
 }
 
@@ -194,29 +148,37 @@ fn line_verb(name: &[u8]) -> Verb
     verb_of(name)
 }
 
-// 1 where a word is there, 0 where it is empty.
-#[tactic(auto, unfolding(crate::specs::Commands::counted, sudoku::specs::Tests::bit))]
-fn count(word: &[u8]) -> usize
-    ensures { (result ≡ counted word.now) × (result ≤ 1) }
+// The words of a text.
+fn words(text: &[u8]) -> Words<'_>
+    ensures { said result ≡ said_of text.now }
 {
-    usize::from(!word.is_empty())
+    let (one, rest) = word(text);
+    if one.is_empty() {
+        return Words::None;
+    }
+    let (two, rest) = word(rest);
+    if two.is_empty() {
+        return Words::One(one);
+    }
+    let (three, rest) = word(rest);
+    if three.is_empty() {
+        return Words::Two(one, two);
+    }
+    let (four, _) = word(rest);
+    if four.is_empty() {
+        return Words::Three(one, two, three);
+    }
+    Words::More(one, two, three)
 }
 
 // A line taken apart.
-#[tactic(auto, unfolding(crate::specs::Commands::command_of, crate::specs::Commands::command_after))]
+#[tactic(auto, unfolding(crate::specs::Commands::command_of, crate::specs::Commands::command_after, crate::specs::Commands::said_of))]
 pub fn taken_apart(line: &[u8]) -> Command<'_>
     ensures { request result ≡ command_of line.now }
 {
     let (name, rest) = word(line);
-    let (one, rest) = word(rest);
-    let (two, rest) = word(rest);
-    let (three, rest) = word(rest);
-    let (four, _) = word(rest);
     Command {
         verb: line_verb(name),
-        words: count(one) + count(two) + count(three) + count(four),
-        first: one,
-        second: two,
-        third: three,
+        words: words(rest),
     }
 }

@@ -16,8 +16,9 @@ fn is_space(byte: u8) -> bool
     matches!(byte, b' ' | b'\t'..=b'\r')
 }
 
-// A cell more behind some. 81 are kept, and beyond them only that there are more; answers how many there are. The cells
-// stand in an array with their count beside it, since `cells` answers 81 however many there are, and needs no heap.
+// A cell more behind some. 81 are kept, and beyond them only that there are more; answers how many there are, and 82
+// for any number above 81, since all that is asked of it then is that they are too many. The cells stand in an array
+// with their count beside it, since `cells` answers 81 however many there are, and needs no heap.
 #[tactic(auto, unfolding(crate::specs::Grids::with_cell, sudoku::specs::Tests::pick))]
 fn put(cells: &mut [u8; 81], count: usize, value: u8) -> usize
     ensures { (so_far cells.new result ≡ with_cell (so_far cells.old count) value) × (result ≤ 82) }

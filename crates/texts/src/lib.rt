@@ -14,8 +14,8 @@ pub enum CellsError {
     Few { count: usize },
 }
 
-// The commands of a player, and what stands for one where a line has no word, or one that is no command: its letter, or 0
-// for a longer word.
+// The commands of a player, and what stands for one where a line has no word, or one that is no command: of a word of
+// one letter that letter, and none of a longer word, or of the byte 0, which is no letter.
 #[derive(Clone, Copy, PartialEq, Eq)]
 pub enum Verb {
     Place,
@@ -37,16 +37,23 @@ pub enum Verb {
     Help,
     Quit,
     NoWord,
-    Unknown(u8),
+    Unknown(Option<u8>),
 }
 
-// A line taken apart: its command, how many words follow (four stand for more), and the first three of them, empty
-// where they are not there.
+// The words that follow a command. None wants more than three; of four or more the first three are kept, since a line
+// taken apart says which they are.
+#[derive(Clone, Copy)]
+pub enum Words<'a> {
+    None,
+    One(&'a [u8]),
+    Two(&'a [u8], &'a [u8]),
+    Three(&'a [u8], &'a [u8], &'a [u8]),
+    More(&'a [u8], &'a [u8], &'a [u8]),
+}
+
+// A line taken apart: its command, and the words that follow.
 #[derive(Clone, Copy)]
 pub struct Command<'a> {
     pub verb: Verb,
-    pub words: usize,
-    pub first: &'a [u8],
-    pub second: &'a [u8],
-    pub third: &'a [u8],
+    pub words: Words<'a>,
 }

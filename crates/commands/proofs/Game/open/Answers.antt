@@ -1,30 +1,17 @@
 -- `commands::Game::open` meets its contract.
 -- Assumes nothing.
-use Rattle.std.proofs.Common.{◌∙◌}
-use mathlib.Core.Logic.{⊎_elim}
-use borrow.Author.Tests.{lt-leb, le-leb}
-use Rattle.sudoku.specs.Tests.{pick, both}
-use Rattle.files.specs.Disk.{unread}
-use Rattle.commands.specs.Perform.{taken_up, open_leaves}
+use Rattle.commands.specs.Perform.{played}
+use Rattle.commands.proofs.Performing.{opens_one, opens_two, opens_none}
 use Rattle.commands.proofs.Game.open.Goals as goal
 
-pub returns-then-command-lt1-clause-left : goal.returns-then-command-lt1-clause-left
-unfolding open_leaves pick both
-returns-then-command-lt1-clause-left g c =
-    let words = c.args.command.words in
-    record {
-      file = unread;
-      answers = unread;
-      leaves = ⊎_elim (λ h. simp (lt-leb 1 words h)) (λ h. simp (le-leb 1 words h.0, lt-leb words 2 h.1)) c.then-command-lt1.either;
-    }
+pub returns-in-One-clause-left : goal.returns-in-One-clause-left
+returns-in-One-clause-left g c =
+    opens_one c.args.command.verb (played c.args.self.now) (played c.open_files.new.self) c.args.command.words c.in-One.path c.in-One.is c.open_files.ensures.left
 
-pub returns-clause-left : goal.returns-clause-left
-unfolding open_leaves taken_up pick both
-returns-clause-left g c =
-    let loaded = c.load-loaded.ensures in
-    let board = c.args.self.now.board in
-    record {
-      file = loaded.file;
-      answers = loaded.answers;
-      leaves = c.take_up.ensures.left ∙ (λ i. taken_up board (loaded.is i)) ∙ simp (le-leb _ _ c.if-command-lt1.false, le-leb _ _ c.if-command-gt2.false);
-    }
+pub returns-in-Two-clause-left : goal.returns-in-Two-clause-left
+returns-in-Two-clause-left g c =
+    opens_two c.args.command.verb (played c.args.self.now) (played c.open_files-in-Two.new.self) c.args.command.words c.in-Two.path c.in-Two.solution c.in-Two.is c.open_files-in-Two.ensures.left
+
+pub returns-in_default-clause-left : goal.returns-in_default-clause-left
+returns-in_default-clause-left g c =
+    opens_none c.args.command.verb c.args.command.words (played c.args.self.now) c.in_default.not-One c.in_default.not-Two

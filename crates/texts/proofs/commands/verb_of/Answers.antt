@@ -3,8 +3,8 @@
 use Rattle.std.proofs.Common.{length, sym, ap, ◌∙◌, arith}
 use borrow.Author.Tests.{eq-eqb, ne_eqb, ltb-true, ltb-false}
 use Rattle.sudoku.proofs.Walks.{pick_true, pick_false}
-use Rattle.texts.specs.Commands.{verb_of_play, verb_of_rest, verb_of, verb_of_letter}
-use Rattle.texts.proofs.Names.{either_found}
+use Rattle.texts.specs.Commands.{verb_of, verb_of_letter}
+use Rattle.texts.proofs.Names.{found_or_unknown}
 use Rattle.texts.proofs.commands.verb_of.Goals as goal
 use Rattle.texts.proofs.commands.verb_of.Goals.{in_default-via-then-name-lt1, in_default-via-else-name-lt1+else-name-lt2}
 
@@ -17,5 +17,4 @@ unfolding verb_of
 returns-in_default c =
     let name = c.args.name.now in
     let long = ne_eqb (length name) 1 (λ e. elim c.in_default.branch [ in_default-via-then-name-lt1 w ↦ absurd (omega (arith, ltb-true)) | in_default-via-else-name-lt1+else-name-lt2 w ↦ absurd (omega (arith, ltb-true, ltb-false)) ]) in
-    rw (c.unwrap_or.ensures, c.or.ensures, c.verb_of_play.ensures, c.verb_of_rest.ensures)
-    (either_found (verb_of_play name) (verb_of_rest name) ∙ ap verb_of_letter (sym (pick_false _ _ _ long)))
+    rw (c.unwrap_or.ensures, c.named.ensures) (found_or_unknown _ ∙ ap verb_of_letter (sym (pick_false _ _ _ long)))
