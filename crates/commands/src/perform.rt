@@ -14,6 +14,7 @@ use journal::{Asked, Move};
 use lines::{LINE_BYTES, write_line};
 use play::checks::check;
 use play::moves::play;
+use play::shown::{Latest, Next, slot_shown};
 use print::deeds::{made, verdict};
 use print::drawing::{keys, position, whole};
 use print::words::explain;
@@ -26,8 +27,6 @@ use std::rt::Files;
 use sudoku::cell_of;
 use texts::commands::number;
 use texts::{Command, Verb, Words};
-use undo::direction::{Again, Back};
-use undo::shown::slot_shown;
 use undo::{redo, undo};
 
 // What a command wants.
@@ -245,7 +244,7 @@ impl Game {
 
     // The latest standing move.
     fn show_latest(&self) {
-        match slot_shown::<Back>(self.board, &self.memory.journal) {
+        match slot_shown::<Latest>(self.board, &self.memory.journal) {
             Ok(slot) => made(self.board.standing, slot_at(slot, 1), false),
             Err(e) => explain(e.into()),
         }
@@ -253,7 +252,7 @@ impl Game {
 
     // The next move to redo. It is numbered from those that stand, and a board has far fewer than a number holds.
     fn show_next(&self) {
-        match slot_shown::<Again>(self.board, &self.memory.journal) {
+        match slot_shown::<Next>(self.board, &self.memory.journal) {
             Ok(slot) => made(
                 self.board.standing.saturating_add(1),
                 slot_at(slot, 1),

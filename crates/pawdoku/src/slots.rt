@@ -10,12 +10,11 @@ use crate::Shown;
 use board::Board;
 use board::error::PlayError;
 use journal::SLOT_BYTES;
+use play::shown::{Latest, Next, slot_shown};
 use puzzle::Refusal;
 use puzzle::answer::accepted;
 use readings::Reading;
 use record::error::WriteError;
-use undo::direction::{Again, Back};
-use undo::shown::slot_shown;
 
 // Zeros beside a refusal.
 fn not_shown(refusal: Refusal) -> Shown
@@ -51,21 +50,21 @@ fn shown(slot: Result<&[u8], PlayError>, others: usize, output: &mut [u8]) -> Sh
     }
 }
 
-#[tactic(auto, unfolding(board::specs::Board::counts_of, play::specs::Play::latest_number, play::specs::Play::latest_part, undo::specs::Code::Ways::shown_number, undo::specs::Code::Ways::shown_part, crate::specs::Library::latest_shown, crate::specs::Library::shown, crate::specs::Library::not_shown, crate::specs::Library::show_number, sudoku::specs::Tests::first, sudoku::specs::Tests::pick))]
+#[tactic(auto, unfolding(board::specs::Board::counts_of, play::specs::Play::latest_number, play::specs::Play::latest_part, play::specs::Code::Turns::shown_number, play::specs::Code::Turns::shown_part, crate::specs::Library::latest_shown, crate::specs::Library::shown, crate::specs::Library::not_shown, crate::specs::Library::show_number, sudoku::specs::Tests::first, sudoku::specs::Tests::pick))]
 pub fn pawdoku_latest(board: Board, journal: &[u8], output: &mut [u8]) -> Shown
     ensures value { result ≡ (latest_shown board journal.now output.old).answer }
     ensures output_after { output.new ≡ (latest_shown board journal.now output.old).output }
 {
-    let slot = slot_shown::<Back>(board, journal);
+    let slot = slot_shown::<Latest>(board, journal);
     shown(slot, board.standing.saturating_sub(1), output)
 }
 
-#[tactic(auto, unfolding(board::specs::Board::counts_of, play::specs::Play::next_number, play::specs::Play::next_part, undo::specs::Code::Ways::shown_number, undo::specs::Code::Ways::shown_part, crate::specs::Library::next_shown, crate::specs::Library::shown, crate::specs::Library::not_shown, crate::specs::Library::show_number, sudoku::specs::Tests::first, sudoku::specs::Tests::pick))]
+#[tactic(auto, unfolding(board::specs::Board::counts_of, play::specs::Play::next_number, play::specs::Play::next_part, play::specs::Code::Turns::shown_number, play::specs::Code::Turns::shown_part, crate::specs::Library::next_shown, crate::specs::Library::shown, crate::specs::Library::not_shown, crate::specs::Library::show_number, sudoku::specs::Tests::first, sudoku::specs::Tests::pick))]
 pub fn pawdoku_next(board: Board, journal: &[u8], output: &mut [u8]) -> Shown
     ensures value { result ≡ (next_shown board journal.now output.old).answer }
     ensures output_after { output.new ≡ (next_shown board journal.now output.old).output }
 {
-    let slot = slot_shown::<Again>(board, journal);
+    let slot = slot_shown::<Next>(board, journal);
     shown(slot, board.standing, output)
 }
 

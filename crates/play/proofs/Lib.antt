@@ -1,2 +1,3 @@
 pub mod Joined
 pub mod Accepted
+pub mod Showing

@@ -1,3 +1,4 @@
 pub mod Play
 pub mod Check
 pub mod Unsound
+pub mod Code

@@ -10,6 +10,7 @@ use crate::marks::{strike_standing, write_lacking};
 use board::error::PlayError;
 use journal::notes::{Strike, Write, change_masked_in};
 use journal::{Counts, DigitChange};
+use play::shown::{Latest, Next, Turn};
 
 // Each change of marks answers whether they stood as they must before it.
 pub trait Direction {
@@ -52,10 +53,7 @@ impl Direction for Back {
     ghost laws = { back_laws };
 
     fn slot(counts: Counts) -> Result<usize, PlayError> {
-        if counts.standing == 0 {
-            return Err(PlayError::NothingToUndo);
-        }
-        Ok(counts.standing)
+        Latest::slot(counts)
     }
 
     fn turned(change: DigitChange) -> DigitChange {
@@ -91,10 +89,7 @@ impl Direction for Again {
     ghost laws = { again_laws };
 
     fn slot(counts: Counts) -> Result<usize, PlayError> {
-        if counts.made <= counts.standing {
-            return Err(PlayError::NothingToRedo);
-        }
-        Ok(counts.standing + 1)
+        Next::slot(counts)
     }
 
     fn turned(change: DigitChange) -> DigitChange {

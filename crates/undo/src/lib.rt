@@ -6,7 +6,6 @@
 pub mod digits;
 pub mod direction;
 pub mod marks;
-pub mod shown;
 
 ghost use Rattle.std.specs.Prelude.{◌≡◌, length, IfOk};
 ghost use Rattle.sudoku.specs.Tests.{first};

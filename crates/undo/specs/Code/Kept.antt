@@ -5,13 +5,12 @@ use Prim.Native.Nat.{ℕ}
 use mathlib.Core.Path.{◌≡◌, refl, sym, ap, ◌∙◌}
 use mathlib.Core.Bool.{Bool, true, false, not}
 use mathlib.Core.List.{List, [], ◌∷◌}
-use native.Mathlib.Omega.{arith}
 use lib.Dec.{eqb}
-use borrow.Author.Tests.{eqb-true, eqb-false, leb-true, leb-false, ltb-true}
+use borrow.Author.Tests.{eqb-true, leb-true, ltb-true}
 use Rattle.std.specs.Prelude.{Option, Some, None}
 use Rattle.sudoku.specs.Tests.{pick, both, either}
 use Rattle.sudoku.specs.Grid.{in_range, is_cell, cell_of, peers_of}
-use Rattle.sudoku.proofs.Walks.{passed, both_left, both_second}
+use Rattle.sudoku.proofs.Walks.{both_left, both_second}
 use Rattle.sudoku.proofs.Grid.{cell_of_is_cell}
 use Rattle.note.specs.Note.{contains}
 use Rattle.journal.specs.declared.DigitChange.{DigitChange}
@@ -115,7 +114,6 @@ back_laws =
     record {
       numbered = λ c. leb-true _ _ refl;
       below_14 = λ c. ltb-true _ _ refl;
-      within = λ c p l. let some = eqb-false c.standing 0 (passed _ 11 [] p).0 in (omega (arith, some), l);
       no_mask = write_none;
       no_mask_stood = lack_none;
       whole = λ s slot. back_by s slot.row slot.column slot.digit slot.before slot.struck (eqb slot.kind place_kind) (eqb slot.kind erase_kind) (eqb slot.kind write_kind);
@@ -128,7 +126,6 @@ again_laws =
     record {
       numbered = λ c. leb-true _ _ refl;
       below_14 = λ c. ltb-true _ _ refl;
-      within = λ c p l. let more = leb-false c.made c.standing (passed _ 12 [] p).0 in (omega arith, omega (arith, more));
       no_mask = strike_none;
       no_mask_stood = have_none;
       whole = λ s slot. again_by s slot.row slot.column slot.digit slot.before slot.struck (eqb slot.kind place_kind) (eqb slot.kind erase_kind) (eqb slot.kind write_kind);

@@ -3,7 +3,7 @@
 -- A recorded move is gone over in two parts, the digit of its cell and the marks. proofs/Laws shows that
 -- the two parts are the whole of specs/State, and that of a sound slot they ask the whole.
 -- Assumes nothing.
-use Rattle.std.specs.Prelude.{ℕ, ◌+◌, ◌≤◌, ◌<◌, ◌≡◌, Bool, true, not, List, [], ◌∷◌, ◌++◌, Option, Some, None, eqb, leb, length}
+use Rattle.std.specs.Prelude.{ℕ, ◌≤◌, ◌<◌, ◌≡◌, Bool, true, not, List, [], ◌∷◌, ◌++◌, Option, Some, None, eqb, length}
 use Rattle.sudoku.specs.Tests.{Test, ◌⇒◌, first, pick, both}
 use Rattle.sudoku.specs.Grid.{cell_of, at, peers_of}
 use Rattle.note.specs.Note.{contains}
@@ -17,13 +17,14 @@ use Rattle.journal.specs.declared.Slot.{Slot}
 use Rattle.journal.specs.Limits.{journal_bytes}
 use Rattle.journal.specs.Counts.{taken_back, retaken}
 use Rattle.journal.specs.State.{State, with_notes, put_digit, write_at, strike_at, write_masked, strike_masked, perform_again, take_back, stands_as_left, stands_as_found}
-use Rattle.journal.specs.Slots.{slot_at, slot_part, move_of, digit_change, is_sound}
+use Rattle.journal.specs.Slots.{slot_at, move_of, digit_change, is_sound}
 use Rattle.journal.specs.Code.InTurn.{lack_in_turn, none_missing_in_turn}
 use Rattle.board.specs.declared.Board.{Board}
 use Rattle.board.specs.declared.Answer.{Answer}
 use Rattle.board.specs.Board.{state_of, counts_of, moved, lent_tests}
 use Rattle.board.specs.Open.{answer}
 use Rattle.play.specs.Play.{slot_refusal}
+use Rattle.play.specs.Code.Turns.{latest_none, latest_at, next_none, next_at}
 
 pub record Way : Type 0 where
   -- 12 or 13: there is no move to go over
@@ -51,8 +52,8 @@ pub record Way : Type 0 where
 abbrev pub back : Way
 back =
     record {
-      none = λ c. eqb c.standing 0 ⇒ 12;
-      slot = λ c. c.standing;
+      none = latest_none;
+      slot = latest_at;
       turned = λ change. record { before = change.after; after = change.before };
       written = strike_at;
       written_stood = contains;
@@ -69,8 +70,8 @@ back =
 abbrev pub again : Way
 again =
     record {
-      none = λ c. leb c.made c.standing ⇒ 13;
-      slot = λ c. c.standing + 1;
+      none = next_none;
+      slot = next_at;
       turned = λ change. change;
       written = write_at;
       written_stood = λ note digit. not (contains note digit);
@@ -122,21 +123,11 @@ call_of w b journal =
     let n = first (before_slot w b (length journal) ++ ((not (fits w (state_of b) slot) ⇒ 14) ∷ [])) in
     pick (eqb n 0) (answer accepted (moved b (w.whole (state_of b) slot) (w.counts (counts_of b)))) (answer (slot_refusal n (w.slot (counts_of b))) b)
 
--- the move that the way would go over, shown: the tests before it, and the part of the lent journal that holds it, an
--- empty part after a refusal
-unfoldable pub shown_number : Way → Board → List ℕ → ℕ
-shown_number w b journal = first (lent_tests (eqb (length journal) journal_bytes) b (w.none (counts_of b) ∷ []))
-
-unfoldable pub shown_part : Way → Board → List ℕ → List ℕ
-shown_part w b journal = pick (eqb (shown_number w b journal) 0) (slot_part journal (w.slot (counts_of b))) []
-
 -- what holds of both ways
 pub record Laws (w : Way) : Type 0 where
   -- a number that is not 0, and is not that of the slot
   pub numbered : (c : Counts) → 1 ≤ (w.none c).number
   pub below_14 : (c : Counts) → (w.none c).number < 14
-  -- a move that is there is one of those that were made
-  pub within : (c : Counts) → first (w.none c ∷ []) ≡ 0 → c.standing ≤ c.made → (1 ≤ w.slot c) × (w.slot c ≤ c.made)
   -- a mask of 0 speaks of no peer
   pub no_mask : (notes : List ℕ) (digit : ℕ) (cells : List ℕ) → w.displaced notes digit 0 cells ≡ notes
   pub no_mask_stood : (notes : List ℕ) (digit : ℕ) (cells : List ℕ) → w.displaced_stood notes digit 0 cells ≡ true

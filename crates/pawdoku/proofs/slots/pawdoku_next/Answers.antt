@@ -5,9 +5,8 @@ use denote.Bor.{Bor}
 use mathlib.Core.List.{List}
 use Prim.Native.Nat.{ℕ}
 use Rattle.board.specs.Board.{counts_of}
-use Rattle.undo.specs.Code.Ways.{again}
-use Rattle.undo.specs.Code.Kept.{again_laws}
-use Rattle.undo.proofs.Showing.{shown_within, shown_length}
+use Rattle.play.specs.Code.Kept.{next_within}
+use Rattle.play.proofs.Showing.{shown_within, shown_length}
 use Rattle.pawdoku.proofs.Showing.{where_shown}
 use Rattle.pawdoku.proofs.slots.pawdoku_next.Goals as goal
 
@@ -16,4 +15,4 @@ unfolding counts_of
 shown-requires c =
     let a = c.args in
     where_shown (λ (p : Bor (List ℕ)). p.now) _ _ _ _ c.slot_shown-slot.ensures.number c.slot_shown-slot.ensures.part
-    (λ z. (shown_length again again_laws a.board a.journal.now z, omega (arith, shown_within again again_laws a.board a.journal.now z, c.type_inv.journal)))
+    (λ z. (shown_length _ _ next_within a.board a.journal.now z, omega (arith, shown_within _ _ next_within a.board a.journal.now z, c.type_inv.journal)))

@@ -1,4 +1,4 @@
--- `undo::shown::slot_part` meets its contract.
+-- `play::shown::slot_part` meets its contract.
 -- Assumes nothing.
 use Prim.Native.Nat.{ℕ, ◌+◌, ◌-◌, ◌*◌}
 use mathlib.Core.Path.{◌≡◌, ap}
@@ -7,7 +7,7 @@ use lib.ListN.{take, drop}
 use Rattle.journal.specs.Limits.{slot_bytes}
 use Rattle.journal.specs.Bytes.{part}
 use Rattle.journal.specs.Slots.{slot_part, slot_start}
-use Rattle.undo.proofs.shown.slot_part.Goals as goal
+use Rattle.play.proofs.shown.slot_part.Goals as goal
 
 pub returns : goal.returns
 unfolding slot_part part slot_start
