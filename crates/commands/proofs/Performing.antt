@@ -107,7 +107,7 @@ module _ (v : Verb) (before after : Session) where
 
 pub opens_none : (v : Verb) (w : Words) (s : Session) → ((path : Bor (List ℕ)) → w ≡ words.One path → ⊥) → ((path solution : Bor (List ℕ)) → w ≡ words.Two path solution → ⊥) → Opens (asked v w) s s
 unfolding open_leaves said pick both
-opens_none v words.None s one two = record { file = unread; answers = unread; leaves = refl }
+opens_none v words.Zero s one two = record { file = unread; answers = unread; leaves = refl }
 opens_none v (words.One path) s one two = absurd (one path refl)
 opens_none v (words.Two path solution) s one two = absurd (two path solution refl)
 opens_none v (words.Three row column digit) s one two = record { file = unread; answers = unread; leaves = refl }

@@ -90,7 +90,7 @@ fn narrow(n: usize) -> u8
 }
 
 // The number of a command that wants one; none where it has not one word, or that is no number.
-fn one_number(command: Command<'_>) -> Option<usize> {
+fn number_of(command: Command<'_>) -> Option<usize> {
     match command.words {
         Words::One(word) => number(word),
         _ => None,
@@ -205,7 +205,7 @@ impl Game {
         ensures coloured { self.new.coloured ≡ self.old.coloured }
     {
         let verb = command.verb;
-        let Words::None = command.words else {
+        let Words::Zero = command.words else {
             want(verb);
             return;
         };
@@ -264,7 +264,7 @@ impl Game {
 
     // The reading of move k.
     fn read_move(&self, command: Command<'_>) {
-        let Some(k) = one_number(command) else {
+        let Some(k) = number_of(command) else {
             want(Verb::Move);
             return;
         };
@@ -364,7 +364,7 @@ impl Game {
         match (command.verb, command.words) {
             (Verb::Move, _) => self.read_move(command),
             (Verb::Unknown(_), _) => show("no such command: help lists them\n"),
-            (verb, Words::None) => self.show_alone(verb),
+            (verb, Words::Zero) => self.show_alone(verb),
             (verb, _) => want(verb),
         }
     }

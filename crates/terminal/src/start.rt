@@ -32,7 +32,7 @@ fn built_in(memory: &mut Memory) -> Board {
 }
 
 fn is_quit(command: Command<'_>) -> bool {
-    matches!((command.verb, command.words), (Verb::Quit, Words::None))
+    matches!((command.verb, command.words), (Verb::Quit, Words::Zero))
 }
 
 // What goes from one line to the next.

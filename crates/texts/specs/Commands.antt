@@ -140,7 +140,7 @@ abbrev pub said_as : ℕ → List ℕ → List ℕ → List ℕ → Said
 said_as count first second third = record { count = count; first = first; second = second; third = third }
 
 unfoldable pub said : Words → Said
-said words.None = said_as 0 [] [] []
+said words.Zero = said_as 0 [] [] []
 said (words.One one) = said_as 1 one.now [] []
 said (words.Two one two) = said_as 2 one.now two.now []
 said (words.Three one two three) = said_as 3 one.now two.now three.now

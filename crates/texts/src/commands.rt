@@ -154,7 +154,7 @@ fn words(text: &[u8]) -> Words<'_>
 {
     let (one, rest) = word(text);
     if one.is_empty() {
-        return Words::None;
+        return Words::Zero;
     }
     let (two, rest) = word(rest);
     if two.is_empty() {

@@ -44,7 +44,7 @@ pub enum Verb {
 // taken apart says which they are.
 #[derive(Clone, Copy)]
 pub enum Words<'a> {
-    None,
+    Zero,
     One(&'a [u8]),
     Two(&'a [u8], &'a [u8]),
     Three(&'a [u8], &'a [u8], &'a [u8]),
