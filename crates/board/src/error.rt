@@ -26,7 +26,7 @@ pub enum PlayError {
 }
 
 impl PlayError {
-    // The refusal's number.
+    // The refusal's number. By `as`: it is the variant's own.
     pub fn number(self) -> u8
         ensures { result ≡ play_number self }
     {

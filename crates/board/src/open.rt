@@ -1,6 +1,6 @@
 // Opening a board: number 1 of what is lent, then 19 and 22 to 27, then the
 // fresh board. The lent memory is zero afterwards, but after 1 it stays.
-ghost use Rattle.std.specs.Prelude.{◌≡◌, eqb, length, replicate};
+ghost use Rattle.std.specs.Prelude.{◌≡◌, eqb, length};
 ghost use Rattle.sudoku.specs.Tests.{both};
 ghost use Rattle.puzzle.specs.Refusals.{refusal as refusal_of};
 ghost use Rattle.puzzle.specs.Givens.{triples};
@@ -18,13 +18,6 @@ use puzzle::answer::accepted;
 use puzzle::given_bytes::GivenBytes;
 use puzzle::vouch::{flat, rows_of};
 use sudoku::CELLS;
-
-// Zero in every byte.
-pub fn clear(memory: &mut [u8])
-    ensures { memory.new ≡ replicate (length memory.old) 0 }
-{
-    memory.fill(0);
-}
 
 // The board that a refused opening hands back: every field 0, unsolved.
 #[tactic(auto, unfolding(crate::specs::Board::zero_board))]
@@ -114,7 +107,7 @@ pub fn open(givens: &[u8], solution: &[u8], journal: &mut [u8], checks: &mut [u8
     if !lent_lengths(solution.len(), journal.len(), checks.len()) || givens.len() % 3 != 0 {
         return wrong_length();
     }
-    clear(journal);
-    clear(checks);
+    journal.fill(0);
+    checks.fill(0);
     opened(givens, solution)
 }

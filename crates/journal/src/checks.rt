@@ -3,7 +3,7 @@
 ghost use Rattle.std.specs.Prelude.{◌≡◌, ◌*◌};
 ghost use Rattle.journal.specs.Limits.{check_bytes};
 ghost use Rattle.journal.specs.Code.Laid.{laid};
-ghost use Rattle.journal.specs.StoredChecks.{stored as stored_of, is_right, judged, stored_bytes, verdict_byte, asked_at, sound_stored, is_sound_check};
+ghost use Rattle.journal.specs.StoredChecks.{stored as stored_of, is_right, judged, stored_bytes, verdict_byte, asked_in, asked_at, sound_stored, is_sound_check};
 
 use crate::lent::{from_entry, write_entry};
 use crate::slots::is_free;
@@ -45,19 +45,27 @@ pub fn store_check(checks: &mut [u8], index: usize, solution: &[u8; 81], asked: 
     right
 }
 
-// What stored check n asked. What lies past the end of the memory reads as 0.
-#[tactic(auto, unfolding(crate::specs::StoredChecks::check_start, crate::specs::Bytes::two))]
+// What the first five bytes ask about: of a stored check, and of a record's behind its kind byte. What lies past their
+// end reads as 0.
+#[tactic(auto, unfolding(crate::specs::StoredChecks::asked_in, crate::specs::Bytes::two))]
+pub fn asked_in(bytes: &[u8]) -> Asked
+    ensures { result ≡ asked_in bytes.now }
+{
+    let standing = u16::from_le_bytes([byte_at(bytes, 0), byte_at(bytes, 1)]);
+    Asked {
+        standing: usize::from(standing),
+        row: byte_at(bytes, 2),
+        column: byte_at(bytes, 3),
+        digit: byte_at(bytes, 4),
+    }
+}
+
+// What stored check n asked.
+#[tactic(auto, unfolding(crate::specs::StoredChecks::check_start, crate::specs::StoredChecks::asked_in))]
 pub fn check_at(checks: &[u8], n: usize) -> Asked
     ensures { result ≡ asked_at checks.now n }
 {
-    let check = from_entry::<CHECK_BYTES>(checks, n);
-    let standing = u16::from_le_bytes([byte_at(check, 0), byte_at(check, 1)]);
-    Asked {
-        standing: usize::from(standing),
-        row: byte_at(check, 2),
-        column: byte_at(check, 3),
-        digit: byte_at(check, 4),
-    }
+    asked_in(from_entry::<CHECK_BYTES>(checks, n))
 }
 
 // The verdict byte of stored check n, 0 past the end of the memory.

@@ -49,7 +49,8 @@ pub fn write_slot(journal: &mut [u8], standing: usize, slot: Slot)
     write_entry(journal, standing, &bytes);
 }
 
-// The move of a slot, by its kind.
+// The move of a slot, by its kind. No `From`: a byte that is the kind of no move reads as a mark struck, which a
+// conversion would hide; who asks whether the slot is sound never sees one.
 #[tactic(auto, unfolding(crate::specs::Slots::move_of, crate::specs::Kinds::kind_at, sudoku::specs::Tests::pick))]
 pub fn move_of(slot: Slot) -> Move
     ensures { result ≡ move_of slot }

@@ -1,5 +1,4 @@
 // The three journal steps over the two counts, made and standing: recording, taking back and retaking a move.
-// Each works on counts that are lent, over one that takes them by value.
 ghost use Rattle.std.specs.Prelude.{◌≡◌};
 ghost use Rattle.journal.specs.Counts.{recorded as recorded_of, taken_back as taken_back_of, retaken as retaken_of};
 
@@ -8,62 +7,32 @@ use crate::{Counts, MAX_MOVES};
 impl Counts {
     // Recording drops the moves after standing and adds one; where the journal is full it changes nothing.
     #[tactic(auto, unfolding(crate::specs::Counts::recorded, sudoku::specs::Tests::pick))]
-    pub fn recorded(self) -> Counts
-        ensures { result ≡ recorded_of self }
+    pub fn record(&mut self)
+        ensures { self.new ≡ recorded_of self.old }
     {
         if self.standing >= MAX_MOVES {
-            return self;
+            return;
         }
         let n = self.made.min(self.standing) + 1;
-        Counts {
-            made: n,
-            standing: n,
-        }
+        self.made = n;
+        self.standing = n;
     }
 
     // Taking back lowers standing by one; at 0 it changes nothing.
     #[tactic(auto, unfolding(crate::specs::Counts::taken_back, sudoku::specs::Tests::pick))]
-    pub fn taken_back(self) -> Counts
-        ensures { result ≡ taken_back_of self }
+    pub fn take_back(&mut self)
+        ensures { self.new ≡ taken_back_of self.old }
     {
-        Counts {
-            made: self.made,
-            standing: self.standing.saturating_sub(1),
-        }
+        self.standing = self.standing.saturating_sub(1);
     }
 
     // Retaking raises standing by one; at made or above it changes nothing.
     #[tactic(auto, unfolding(crate::specs::Counts::retaken, sudoku::specs::Tests::pick))]
-    pub fn retaken(self) -> Counts
-        ensures { result ≡ retaken_of self }
-    {
-        if self.standing >= self.made {
-            return self;
-        }
-        Counts {
-            made: self.made,
-            standing: self.standing + 1,
-        }
-    }
-
-    // Records a move.
-    pub fn record(&mut self)
-        ensures { self.new ≡ recorded_of self.old }
-    {
-        *self = self.recorded();
-    }
-
-    // Takes a move back.
-    pub fn take_back(&mut self)
-        ensures { self.new ≡ taken_back_of self.old }
-    {
-        *self = self.taken_back();
-    }
-
-    // Retakes a move.
     pub fn retake(&mut self)
         ensures { self.new ≡ retaken_of self.old }
     {
-        *self = self.retaken();
+        if self.standing < self.made {
+            self.standing += 1;
+        }
     }
 }

@@ -24,7 +24,8 @@ pub fn contains(note: u16, digit: u8) -> bool
     note & power(digit) != 0
 }
 
-// The note with the mark `digit` written, or the same note for what is not a digit.
+// The note with the mark `digit` written, or the same note for what is not a digit. This and the next are the
+// original's; a move changes a note by the mark's value, over which crate journal has one loop for both.
 pub fn with(note: u16, digit: u8) -> u16
     ensures { result ≡ with_mark note digit }
 {
@@ -38,7 +39,7 @@ pub fn without(note: u16, digit: u8) -> u16
     note - (note & power(digit))
 }
 
-// How many marks are written.
+// How many marks are written. By `as`: a `u32` of at most 9, and no `From` leads from it to a length.
 pub fn len(note: u16) -> usize
     ensures { result ≡ len_of note }
 {

@@ -29,8 +29,8 @@ impl From<Unsound> for Refusal {
     }
 }
 
-// What lent memory holds one behind the other, numbered from 1, and 14 speaks of: slots, by the move that one holds, and
-// stored checks, by what one asked.
+// What lent memory holds one behind the other, numbered from 1, and 14 speaks of: slots, by the move that one holds,
+// and stored checks, by what one asked.
 pub trait Stored {
     ghost unsound: { List ℕ → List ℕ → ℕ → Refusal };
 

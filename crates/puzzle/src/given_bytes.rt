@@ -1,26 +1,26 @@
 // Givens (sudoku.rs of the original): read from bytes in either layout, their order, and the digits of a fresh board.
-ghost use Rattle.std.specs.Prelude.{◌≡◌, ℕ, ◌≤◌, ◌+◌, length};
+ghost use Rattle.std.specs.Prelude.{◌≡◌, ℕ};
 ghost use Rattle.puzzle.specs.declared.Given.{Given};
 ghost use Rattle.puzzle.specs.Givens.{precedes as precedes_to, ascending, digits_of, given_cells};
 ghost use Rattle.puzzle.specs.Code.GivenBytes.{given_from, given_in, givens_in, laid_by};
 
-use crate::{Given, Layout, byte_at, put_at};
+use crate::{Given, Layout, byte_at, bytes_from, put_at};
 use sudoku::cell_of;
 
 // The given whose three bytes start at an index; bytes past the end read as 0.
 #[tactic(auto, unfolding(crate::specs::Code::GivenBytes::given_from))]
-fn given_from(bytes: &[u8], start: usize) -> Given
-    requires { start ≤ length bytes.now + 1 }
+pub fn given_from(bytes: &[u8], start: usize) -> Given
     ensures { result ≡ given_from bytes.now start }
 {
+    let given = bytes_from(bytes, start);
     Given {
-        row: byte_at(bytes, start),
-        column: byte_at(bytes, start + 1),
-        digit: byte_at(bytes, start + 2),
+        row: byte_at(given, 0),
+        column: byte_at(given, 1),
+        digit: byte_at(given, 2),
     }
 }
 
-// Whether g stands strictly before h in the order of row, column, digit.
+// Whether g stands strictly before h in the order of row, column, digit: the derived order, which the contract says.
 #[tactic(auto, unfolding(crate::specs::Givens::precedes, sudoku::specs::Tests::both, sudoku::specs::Tests::either))]
 pub fn precedes(g: Given, h: Given) -> bool
     ensures { result ≡ precedes_to g h }
@@ -28,7 +28,7 @@ pub fn precedes(g: Given, h: Given) -> bool
     g < h
 }
 
-// Givens as they stand in some bytes: in which layout, and how many.
+// Givens as they stand in some bytes: in which layout, and how many, since in a record's bytes the moves follow.
 #[derive(Clone, Copy)]
 pub struct GivenBytes<'a> {
     pub bytes: &'a [u8],
@@ -37,8 +37,7 @@ pub struct GivenBytes<'a> {
 }
 
 impl<'a> GivenBytes<'a> {
-    // The given with index i, counted from 0. The index of its first byte is held at the end of the bytes, behind
-    // which all givens are zeros.
+    // The given with index i, counted from 0. An index that a `usize` cannot hold is past the end, as the greatest is.
     pub fn given(self, i: usize) -> Given
         ensures { result ≡ given_in self.entry.layout self.entry.bytes.now i }
     {
@@ -46,7 +45,7 @@ impl<'a> GivenBytes<'a> {
             Layout::Triples => i.saturating_mul(3),
             Layout::Items => i.saturating_mul(4).saturating_add(1),
         };
-        given_from(self.bytes, start.min(self.bytes.len()))
+        given_from(self.bytes, start)
     }
 
     // Whether the givens ascend strictly.

@@ -2,7 +2,7 @@
 // what a setter may pose, conflicts, and when a puzzle is solved.
 #![tactic(auto)]
 
-ghost use Rattle.std.specs.Prelude.{◌≡◌, ◌≤◌, ◌-◌, eqb, get_or, set};
+ghost use Rattle.std.specs.Prelude.{◌≡◌, ◌≤◌, ◌-◌, eqb, get_or, drop, set};
 ghost use Rattle.sudoku.specs.Tests.{count};
 ghost use Rattle.sudoku.specs.Grid.{at};
 ghost use Rattle.puzzle.specs.Puzzle.{is_held, holds_digit, conflicts as conflicts_at, is_full, is_consistent, settled as settled_by, digits_left};
@@ -53,7 +53,15 @@ pub fn byte_at(bytes: &[u8], i: usize) -> u8
     bytes.get(i).copied().unwrap_or(0)
 }
 
-// Where a cell's entry stands in a list of 81. No cell has the number 0; it stands where cell 1 does.
+// The bytes from an index on; none where they end before it.
+pub fn bytes_from(bytes: &[u8], start: usize) -> &[u8]
+    ensures { result.now ≡ drop start bytes.now }
+{
+    bytes.get(start..).unwrap_or(&[])
+}
+
+// Where an entry numbered from 1 stands, as a cell's in a list of 81. None has the number 0; it stands where the first
+// does.
 pub fn index_of(cell: usize) -> usize
     ensures { result ≡ cell - 1 }
 {

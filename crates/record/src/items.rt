@@ -1,13 +1,14 @@
 // Items: what a kind byte decides, and what stands at an offset of a record's bytes.
 ghost use Rattle.std.specs.Prelude.{◌≡◌, ◌+◌, ◌≤◌, ◌<◌, length, drop, get_or};
-ghost use Rattle.puzzle.specs.Givens.{given};
 ghost use Rattle.journal.specs.Bytes.{two};
 ghost use Rattle.record.specs.Code.Counting.{shape_of, taken, read_of, move_at, asked_from, item_of};
 
 use crate::{Group, Item, Read, Shape};
+use journal::checks::asked_in;
 use journal::slots::move_of;
 use journal::{Asked, Move, Slot};
-use puzzle::{Given, byte_at};
+use puzzle::given_bytes::given_from;
+use puzzle::{byte_at, bytes_from};
 
 // What the kind byte of an item decides; nothing where no item has the kind. A match on the byte with its ranges, as
 // the requirement has it (docs/CLAIMS.md, the forms that document 01 names).
@@ -49,55 +50,39 @@ fn two_at(bytes: &[u8], at: usize) -> usize
     usize::from(u16::from_le_bytes([byte_at(bytes, at), byte_at(bytes, at + 1)]))
 }
 
-// The move whose kind byte stands at an offset. Every byte past the end reads
-// as 0, so reading goes on from the end where an offset lies past it, and no sum overflows.
+// The move whose kind byte stands at an offset; every byte past the end reads as 0. A move's item has the first four
+// bytes of its slot, and is read as one.
+#[tactic(auto, unfolding(crate::specs::Code::Counting::move_at))]
 pub fn move_at(bytes: &[u8], at: usize) -> Move
     ensures { result ≡ move_at bytes.now at }
 {
-    let start = at.min(bytes.len());
+    let item = bytes_from(bytes, at);
     move_of(Slot {
-        kind: byte_at(bytes, start),
-        row: byte_at(bytes, start + 1),
-        column: byte_at(bytes, start + 2),
-        digit: byte_at(bytes, start + 3),
+        kind: byte_at(item, 0),
+        row: byte_at(item, 1),
+        column: byte_at(item, 2),
+        digit: byte_at(item, 3),
         before: 0,
         struck: 0,
     })
 }
 
 // The check whose kind byte stands at an offset.
+#[tactic(auto, unfolding(crate::specs::Code::Counting::asked_from, journal::specs::StoredChecks::asked_in))]
 pub fn asked_at(bytes: &[u8], at: usize) -> Asked
     ensures { result ≡ asked_from bytes.now at }
 {
-    let start = at.min(bytes.len());
-    Asked {
-        standing: two_at(bytes, start + 1),
-        row: byte_at(bytes, start + 3),
-        column: byte_at(bytes, start + 4),
-        digit: byte_at(bytes, start + 5),
-    }
-}
-
-// The given whose kind byte stands at an offset.
-fn given_at(bytes: &[u8], at: usize) -> Given
-    requires { at < length bytes.now }
-    ensures { result ≡ given (get_or bytes.now (at + 1) 0) (get_or bytes.now (at + 2) 0) (get_or bytes.now (at + 3) 0) }
-{
-    Given {
-        row: byte_at(bytes, at + 1),
-        column: byte_at(bytes, at + 2),
-        digit: byte_at(bytes, at + 3),
-    }
+    asked_in(bytes_from(bytes_from(bytes, at), 1))
 }
 
 // The item of a group whose kind byte stands at an offset.
-#[tactic(auto, unfolding(crate::specs::Code::Counting::item_of, crate::specs::Items::check_item))]
+#[tactic(auto, unfolding(crate::specs::Code::Counting::item_of, crate::specs::Items::check_item, puzzle::specs::Code::GivenBytes::given_from))]
 fn item_at(bytes: &[u8], at: usize, group: Group) -> Item
     requires { at < length bytes.now }
     ensures { result ≡ item_of bytes.now at group }
 {
     match group {
-        Group::Givens => Item::Given(given_at(bytes, at)),
+        Group::Givens => Item::Given(given_from(bytes, at + 1)),
         Group::Moves => Item::Played(move_at(bytes, at)),
         Group::Count => Item::Undone(two_at(bytes, at + 1)),
         Group::Checks => Item::Check(asked_at(bytes, at)),

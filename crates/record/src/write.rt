@@ -47,7 +47,8 @@ pub fn move_length(m: Move) -> usize
     }
 }
 
-// Bytes at an offset; answers where they end. Over an array of `N` bytes writing takes nearly twice as long.
+// Bytes at an offset; answers where they end. Over an array of `N` bytes writing takes nearly twice as long. Output and
+// offset are no struct: each contract would say of both what it says of the output alone, before and after.
 fn lay(output: &mut [u8], at: usize, bytes: &[u8]) -> usize
     requires { at + length bytes.now ≤ length output.old }
     ensures { (result ≡ at + length bytes.now) × (output.new ≡ over output.old at bytes.now) }
@@ -119,7 +120,7 @@ fn lay_given(board: &Board, cell: usize, output: &mut [u8], at: usize) -> usize
     )
 }
 
-// The items of the givens, in the order of their cells. A cell without a given has no item, so they are not `Stored`;
+// The items of the givens, in the order of their cells. A cell without a given has no item, so they are not `AsItem`;
 // crate lines walks the cells so too, over triples: one function of both would be a trait around this loop.
 fn lay_givens(board: &Board, output: &mut [u8]) -> usize
     requires { length (givens_bytes board.now) ≤ length output.old }
@@ -132,15 +133,16 @@ fn lay_givens(board: &Board, output: &mut [u8]) -> usize
     at
 }
 
-// What lent memory holds one behind the other, numbered from 1, each of which is an item of the record.
-trait Stored {
+// What lent memory holds one behind the other, numbered from 1, each of which is an item of the record. Apart from
+// `play::sound::Stored`, since an item is this crate's.
+trait AsItem {
     ghost item_in: { List ℕ → ℕ → Item };
 
     fn item_at(memory: &[u8], n: usize) -> Item
         ensures { result ≡ item_in memory.now n };
 }
 
-impl Stored for Move {
+impl AsItem for Move {
     ghost item_in = { move_in };
 
     fn item_at(journal: &[u8], n: usize) -> Item {
@@ -148,7 +150,7 @@ impl Stored for Move {
     }
 }
 
-impl Stored for Asked {
+impl AsItem for Asked {
     ghost item_in = { check_in };
 
     #[tactic(auto, unfolding(crate::specs::Items::check_item))]
@@ -158,7 +160,7 @@ impl Stored for Asked {
 }
 
 // The items 1 to `count` of the memory.
-fn lay_stored<S: Stored>(memory: &[u8], count: usize, output: &mut [u8], start: usize) -> usize
+fn lay_stored<S: AsItem>(memory: &[u8], count: usize, output: &mut [u8], start: usize) -> usize
     requires { start + length (bytes_to (S.item_in memory.now) count) ≤ length output.old }
     ensures { (result ≡ start + length (bytes_to (S.item_in memory.now) count)) × (output.new ≡ over output.old start (bytes_to (S.item_in memory.now) count)) }
 {

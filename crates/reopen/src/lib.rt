@@ -47,7 +47,8 @@ fn next_test(board: &Board, index: usize, m: Move) -> Result<(), ReopenError>
     move_test(board, m).map_err(|why| ReopenError::MoveRefused { index, why })
 }
 
-// All moves performed in order, the first of which stands at `start`.
+// All moves performed in order, the first of which stands at `start`; their items have two lengths, so each says where
+// the next one starts. Offsets count from the record's first byte, as its definitions do.
 fn replay(
     bytes: &[u8],
     start: usize,

@@ -16,7 +16,8 @@ use play::shown::{Latest, Next, Turn};
 pub trait Direction {
     ghost way: { Way };
 
-    // The number of the slot of the move to go over.
+    // The number of the slot of the move to go over. It is asked of a `Turn`, whose test and number the way has among
+    // its own, so that the laws of a way speak of one record.
     fn slot(counts: Counts) -> Result<usize, PlayError>
         ensures number { number_told result ≡ first (way.none counts ∷ []) }
         ensures slot { IfOk result (λ n. n ≡ way.slot counts) };

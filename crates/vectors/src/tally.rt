@@ -8,7 +8,7 @@ pub struct Tally {
     pub differences: usize,
 }
 
-// One more; the greatest number stays.
+// So many more; the greatest number stays.
 pub fn count(counter: &mut usize, more: usize) {
     *counter = counter.saturating_add(more);
 }

@@ -1,5 +1,5 @@
--- `puzzle::given_bytes::GivenBytes::given` meets its contract: a start is held at the end of the bytes, and where it
--- lies past the end the given is zeros either way.
+-- `puzzle::given_bytes::GivenBytes::given` meets its contract: where the index is held at the greatest number both
+-- lie past the end, and the given is zeros either way.
 -- Assumes nothing.
 use Prim.Native.Nat.{ℕ, ◌+◌, ◌*◌}
 use mathlib.Core.Path.{◌≡◌, sym, ap, ◌∙◌}
@@ -22,10 +22,10 @@ returns c =
     elim c.match-self.branch [
       | in-Triples w ↦
           c.given_from.ensures
-          ∙ given_held a.self.bytes.now c.min.result (0 + 3 * a.i) (λ h. omega (arith, h)) (λ h. omega (arith, h))
+          ∙ given_held a.self.bytes.now c.match-self.start (0 + 3 * a.i) (λ h. omega (arith, h)) (λ h. omega (arith, h))
           ∙ told a.self.bytes.now a.i w.in-Triples.is
       | in-Items w ↦
           c.given_from.ensures
-          ∙ given_held a.self.bytes.now c.min.result (1 + 4 * a.i) (λ h. omega (arith, h)) (λ h. omega (arith, h))
+          ∙ given_held a.self.bytes.now c.match-self.start (1 + 4 * a.i) (λ h. omega (arith, h)) (λ h. omega (arith, h))
           ∙ told a.self.bytes.now a.i w.in-Items.is
     ]
