@@ -1,16 +1,17 @@
 -- The loops over a list of cells: what a turn takes off each walk of
 -- specs/State and specs/Code/InTurn over what is left of the list, `drop i cells`.
 -- Assumes nothing.
-use Prim.Native.Nat.{ℕ, zero, suc, ◌+◌, ◌-◌, ◌*◌, ◌/◌, ◌%◌, ◌≤◌, ◌<◌, ◌^◌}
+use Prim.Native.Nat.{ℕ, ◌+◌, ◌-◌, ◌*◌, ◌/◌, ◌%◌, ◌≤◌, ◌<◌, ◌^◌}
 use mathlib.Core.Path.{◌≡◌, refl, sym, ap, ◌∙◌}
 use mathlib.Core.Bool.{Bool, true, false, not, ◌&&◌, not-not}
-use mathlib.Core.List.{List, [], ◌∷◌}
-use native.Mathlib.Nat.{sub-zero, lt_of_lt_of_le, le_of_suc-le-suc, not-suc-le-zero}
+use mathlib.Core.List.{List, ◌∷◌}
+use native.Mathlib.Nat.{sub-zero, lt_of_lt_of_le}
 use native.Mathlib.Numerals.{add-one}
 use native.Mathlib.Omega.{arith}
 use borrow.Author.Tests.{eqb-true, eqb-false}
 use lib.Bits.{bit_and, bit_or, and_zero_r, or_zero_r}
 use lib.Dec.{eqb}
+use Rattle.std.proofs.lemmas.List.{drop_all}
 use lib.ListN.{length, get_or, drop}
 use lib.Pow.{pow_mono}
 use lib.Seq.{drop-cons, set-get_or}
@@ -25,12 +26,6 @@ use Rattle.journal.specs.Code.Marks.{MarkLaws}
 use Rattle.journal.proofs.NoteCells.{holders_small}
 
 -- ---- what is left of the list
-
-drop_past : (l : List ℕ) (i : ℕ) → length l ≤ i → drop i l ≡ []
-drop_past [] zero h = refl
-drop_past (x ∷ xs) zero h = absurd (not-suc-le-zero h)
-drop_past [] (suc i) h = refl
-drop_past (x ∷ xs) (suc i) h = drop_past xs i (le_of_suc-le-suc h)
 
 cells_left : (cells : List ℕ) (i : ℕ) → i < length cells → drop i cells ≡ get_or cells i 0 ∷ drop (i + 1) cells
 cells_left cells i h = rw (add-one i) (drop-cons cells i 0 h)
@@ -55,12 +50,12 @@ module _ (cells : List ℕ) (i : ℕ) (h : i < length cells) where
 module _ (cells : List ℕ) (i : ℕ) (h : length cells ≤ i) where
   pub strike_all_end : (notes : List ℕ) (d : ℕ) → strike_all notes d (drop i cells) ≡ notes
   unfolding strike_all
-  strike_all_end notes d = rw (drop_past cells i h)
+  strike_all_end notes d = rw (drop_all i cells h)
 
   pub in_turn_end : (change : List ℕ → ℕ → List ℕ) (test : ℕ → Bool) (notes : List ℕ) (mask : ℕ) (ok : Bool)
       → both ok (in_turn change test notes mask (drop i cells)) ≡ ok
   unfolding in_turn
-  in_turn_end change test notes mask ok = rw (drop_past cells i h) (both_second ok true refl)
+  in_turn_end change test notes mask ok = rw (drop_all i cells h) (both_second ok true refl)
 
 -- ---- the two changes of a mark, by their laws
 
@@ -71,7 +66,7 @@ module _ {after : ℕ → ℕ → ℕ} {fits : ℕ → ℕ → Bool} {at_cell : 
   masked_turn h notes d mask = rw (cells_left cells i h) (laws.more notes d mask _ _)
 
   pub masked_end : length cells ≤ i → (notes : List ℕ) (d mask : ℕ) → masked notes d mask (drop i cells) ≡ notes
-  masked_end h notes d mask = rw (drop_past cells i h) (laws.none notes d mask)
+  masked_end h notes d mask = rw (drop_all i cells h) (laws.none notes d mask)
 
   pub fits_turn : i < length cells → (notes next : List ℕ) (d mask : ℕ) (ok r : Bool)
       → r ≡ either (not (lowest mask)) (fits d (at notes (get_or cells i 0))) → next ≡ pick (lowest mask) (at_cell notes (get_or cells i 0) d) notes

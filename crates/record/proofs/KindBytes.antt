@@ -215,18 +215,3 @@ module _ (bytes : List ℕ) (at : ℕ) (inside : at < length bytes) where
         ∙ (begun (Some s) e).1 (omega (arith, behind_kind))
         ∙ ap (λ (i : Item). Some (read i (at + 1 + s.body)))
         (ap (λ (l : List ℕ). item_of l 0 s.group) (sym (drop-cons bytes at 0 inside)) ∙ item_shift bytes at s.group))
-
--- reading goes on from the end where an offset lies past it
-module _ (bytes : List ℕ) (start at : ℕ) (short : start ≤ length bytes) (le : start ≤ at) (past : start < at → start ≡ length bytes) where
-  same_byte : (m n : ℕ) → (start ≡ at → m ≡ n) → start ≤ m → at ≤ n → get_or bytes m 0 ≡ get_or bytes n 0
-  same_byte m n e h u =
-      ⊎_elim (λ (q : start ≡ at). ap (λ (i : ℕ). get_or bytes i 0) (e q))
-      (λ (q : start < at).
-      let w = past q in get_or-eq_default bytes 0 {n = m} (omega arith) ∙ sym (get_or-eq_default bytes 0 {n = n} (omega arith)))
-      (eq-or-lt_of_le le)
-
-  pub same_here : get_or bytes start 0 ≡ get_or bytes at 0
-  same_here = same_byte start at (λ e. e) (omega arith) (omega arith)
-
-  pub same_behind : (k : ℕ) → get_or bytes (start + k) 0 ≡ get_or bytes (at + k) 0
-  same_behind k = same_byte (start + k) (at + k) (λ e. ap (λ (i : ℕ). i + k) e) (omega arith) (omega arith)
