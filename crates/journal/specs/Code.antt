@@ -1,3 +1,4 @@
 pub mod InTurn
 pub mod Laid
 pub mod Marks
+pub mod Asked

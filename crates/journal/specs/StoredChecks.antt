@@ -50,16 +50,6 @@ unfoldable pub verdict_byte : List ℕ → ℕ → ℕ
 verdict_byte checks n = get_or checks (check_start n + 5) 0
 
 -- check n, read: what was asked, and the whole of it
--- what the first five bytes ask about
-unfoldable pub asked_in : List ℕ → Asked
-asked_in bytes =
-    record {
-      standing = two (get_or bytes 0 0) (get_or bytes 1 0);
-      row = get_or bytes 2 0;
-      column = get_or bytes 3 0;
-      digit = get_or bytes 4 0;
-    }
-
 abbrev pub asked_at : List ℕ → ℕ → Asked
 asked_at checks n =
     let start = check_start n in

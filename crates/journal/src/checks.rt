@@ -2,8 +2,9 @@
 // memory. The layout is read and written here and nowhere else.
 ghost use Rattle.std.specs.Prelude.{◌≡◌, ◌*◌};
 ghost use Rattle.journal.specs.Limits.{check_bytes};
+ghost use Rattle.journal.specs.Code.Asked.{asked_in};
 ghost use Rattle.journal.specs.Code.Laid.{laid};
-ghost use Rattle.journal.specs.StoredChecks.{stored as stored_of, is_right, judged, stored_bytes, verdict_byte, asked_in, asked_at, sound_stored, is_sound_check};
+ghost use Rattle.journal.specs.StoredChecks.{stored as stored_of, is_right, judged, stored_bytes, verdict_byte, asked_at, sound_stored, is_sound_check};
 
 use crate::lent::{from_entry, write_entry};
 use crate::slots::is_free;
@@ -47,7 +48,7 @@ pub fn store_check(checks: &mut [u8], index: usize, solution: &[u8; 81], asked: 
 
 // What the first five bytes ask about: of a stored check, and of a record's behind its kind byte. What lies past their
 // end reads as 0.
-#[tactic(auto, unfolding(crate::specs::StoredChecks::asked_in, crate::specs::Bytes::two))]
+#[tactic(auto, unfolding(crate::specs::Code::Asked::asked_in, crate::specs::Bytes::two))]
 pub fn asked_in(bytes: &[u8]) -> Asked
     ensures { result ≡ asked_in bytes.now }
 {
@@ -61,7 +62,7 @@ pub fn asked_in(bytes: &[u8]) -> Asked
 }
 
 // What stored check n asked.
-#[tactic(auto, unfolding(crate::specs::StoredChecks::check_start, crate::specs::StoredChecks::asked_in))]
+#[tactic(auto, unfolding(crate::specs::StoredChecks::check_start, crate::specs::Code::Asked::asked_in))]
 pub fn check_at(checks: &[u8], n: usize) -> Asked
     ensures { result ≡ asked_at checks.now n }
 {

@@ -54,8 +54,9 @@ pub fn is_empty(note: u16) -> bool
     len(note) == 0
 }
 
-// The marks written, from the lowest digit to the highest, then zeros. There is no heap to collect them on,
-// so each is stored behind the ones before it.
+// The marks written, from the lowest digit to the highest, then zeros. There is no heap to collect them on, so each is
+// stored behind the ones before it. Places zipped with a filter of the digits would be no plainer: what of the filter
+// is used up would have to be said of every turn.
 pub fn digits(note: u16) -> [u8; 9]
     ensures { result ≡ digits_of note }
 {

@@ -68,7 +68,7 @@ pub fn move_at(bytes: &[u8], at: usize) -> Move
 }
 
 // The check whose kind byte stands at an offset.
-#[tactic(auto, unfolding(crate::specs::Code::Counting::asked_from, journal::specs::StoredChecks::asked_in))]
+#[tactic(auto, unfolding(crate::specs::Code::Counting::asked_from, journal::specs::Code::Asked::asked_in))]
 pub fn asked_at(bytes: &[u8], at: usize) -> Asked
     ensures { result ≡ asked_from bytes.now at }
 {

@@ -209,7 +209,8 @@ fn reopened(
     settle(bytes, s, last, journal, checks)
 }
 
-// Reopens a record. A refusal by anything but 1 leaves both memories zero.
+// Reopens a record. A refusal by anything but 1 leaves both memories zero; so its answer is made here, and not by one
+// function for opening and reopening.
 pub fn reopen(bytes: &[u8], solution: &[u8], journal: &mut [u8], checks: &mut [u8]) -> Answer
     ensures { Gives (reopen_of bytes.now solution.now journal.old checks.old) result journal.new checks.new }
 {
