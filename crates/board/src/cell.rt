@@ -1,6 +1,6 @@
 // What a cell's parts say together (board/cell.rs of the original).
-// Any number is a cell here: where the grid has none, nothing stands. The two lists come apart from their board: a whole
-// board would ask more of a caller who has no more than these.
+// Any number is a cell here: where the grid has none, nothing stands. The two lists come apart from their board: a
+// whole board would ask more of a caller who has no more than these.
 ghost use Rattle.std.specs.Prelude.{◌≡◌, not};
 ghost use Rattle.sudoku.specs.Tests.{both};
 ghost use Rattle.puzzle.specs.Givens.{is_given};

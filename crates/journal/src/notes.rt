@@ -131,7 +131,8 @@ pub fn holders(notes: &[u16; 81], digit: u8, cells: [u8; 20]) -> u32
     mask
 }
 
-// The value of the mark `digit` where the lowest bit of the mask is set, and 0 where it is not. By `as`: a bit is 0 or 1.
+// The value of the mark `digit` where the lowest bit of the mask is set, and 0 where it is not. By `as`: a bit is at
+// most 1.
 fn mark_if(digit: u8, mask: u32) -> u16
     ensures { result ≡ pick (lowest mask) (power_of digit) 0 }
 {
