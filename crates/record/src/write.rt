@@ -252,6 +252,7 @@ impl Written {
 }
 
 // Lays the record into the output; answers its length.
+#[tactic(auto, unfolding(crate::specs::Write::write_refusal, puzzle::specs::Refusals::or_else, puzzle::specs::Refusals::refused_if, puzzle::specs::Refusals::is_accepted, sudoku::specs::Tests::pick))]
 fn written(
     board: &Board,
     journal: &[u8],
