@@ -191,23 +191,23 @@ module _ (b : Board) (journal checks out : List ℕ) (h : length (record_of (par
   pub givens_room_lem : length (givens_bytes b) ≤ length out
   givens_room_lem = omega (arith, laying_room _ _ _ _ _ _ laying_0 (givens_bytes b) (of_moves ++ (count_bytes ++ of_checks)) groups)
 
-  module _ (out1 : List ℕ) (at1 : ℕ) (e1 : at1 ≡ length (givens_bytes b)) (o1 : out1 ≡ over out 0 (givens_bytes b)) where
+  module _ (out1 : List ℕ) (at1 : ℕ) (l1 : (at1 ≡ length (givens_bytes b)) × (out1 ≡ over out 0 (givens_bytes b))) where
     laying_1 : Laying out 0 (record_of (parts_of b journal checks)) out1 at1 (of_moves ++ (count_bytes ++ of_checks))
-    laying_1 = laying_more _ _ _ _ _ _ laying_0 (givens_bytes b) (of_moves ++ (count_bytes ++ of_checks)) out1 at1 groups (omega arith) o1
+    laying_1 = laying_more _ _ _ _ _ _ laying_0 (givens_bytes b) (of_moves ++ (count_bytes ++ of_checks)) out1 at1 groups (omega (arith, l1.0)) l1.1
 
     pub moves_room : at1 + length of_moves ≤ length out1
     moves_room = laying_room _ _ _ _ _ _ laying_1 of_moves (count_bytes ++ of_checks) refl
 
-    module _ (out2 : List ℕ) (at2 : ℕ) (e2 : at2 ≡ at1 + length of_moves) (o2 : out2 ≡ over out1 at1 of_moves) where
+    module _ (out2 : List ℕ) (at2 : ℕ) (l2 : (at2 ≡ at1 + length of_moves) × (out2 ≡ over out1 at1 of_moves)) where
       laying_2 : Laying out 0 (record_of (parts_of b journal checks)) out2 at2 (count_bytes ++ of_checks)
-      laying_2 = laying_more _ _ _ _ _ _ laying_1 of_moves (count_bytes ++ of_checks) out2 at2 refl e2 o2
+      laying_2 = laying_more _ _ _ _ _ _ laying_1 of_moves (count_bytes ++ of_checks) out2 at2 refl l2.0 l2.1
 
       pub count_room : at2 + 3 ≤ length out2
       count_room = laying_room _ _ _ _ _ _ laying_2 count_bytes of_checks refl
 
-      module _ (out3 : List ℕ) (at3 : ℕ) (e3 : at3 ≡ at2 + 3) (o3 : out3 ≡ over out2 at2 count_bytes) where
+      module _ (out3 : List ℕ) (at3 : ℕ) (l3 : (at3 ≡ at2 + 3) × (out3 ≡ over out2 at2 count_bytes)) where
         laying_3 : Laying out 0 (record_of (parts_of b journal checks)) out3 at3 of_checks
-        laying_3 = laying_more _ _ _ _ _ _ laying_2 count_bytes of_checks out3 at3 refl e3 o3
+        laying_3 = laying_more _ _ _ _ _ _ laying_2 count_bytes of_checks out3 at3 refl l3.0 l3.1
 
         pub checks_room : at3 + length of_checks ≤ length out3
         checks_room = laying_3.fits
