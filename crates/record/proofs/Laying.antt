@@ -129,6 +129,18 @@ checks_by checks n = ap encode_all (map_listed check_item (asked_at checks) n 1)
 pub moves_left : (journal : List ℕ) (made : ℕ) → moves_bytes journal made ≡ items_left (move_in journal) (made + 1) 1
 moves_left journal made = moves_by journal made ∙ all_left (move_in journal) made
 
+-- how many bytes the moves have: all, the move at n and those behind it, none
+pub length_all : (journal : List ℕ) (made : ℕ) → length (moves_bytes journal made) ≡ length (items_left (move_in journal) (made + 1) 1)
+length_all journal made = ap length (moves_left journal made)
+
+module _ (journal : List ℕ) (made n : ℕ) where
+  pub length_turn : n < made + 1
+      → length (items_left (move_in journal) (made + 1) n) ≡ length (encode (Played (move_of (slot_at journal n)))) + length (items_left (move_in journal) (made + 1) (n + 1))
+  length_turn h = ap length (items_turn (move_in journal) (made + 1) n h) ∙ length-append (encode (move_in journal n)) (items_left (move_in journal) (made + 1) (n + 1))
+
+  pub length_none : made + 1 ≤ n → length (items_left (move_in journal) (made + 1) n) ≡ 0
+  length_none h = ap length (items_none (move_in journal) (made + 1) n h)
+
 -- ---- givens
 
 -- the bytes of givens as items

@@ -198,6 +198,7 @@ impl<'a> Kept<'a> {
     }
 
     // How many bytes the items of slots 1 to made have.
+    #[tactic(auto, using(crate::proofs::Laying::length_all, crate::proofs::Laying::length_turn, crate::proofs::Laying::length_none))]
     fn moves_length(&self) -> usize
         ensures { (result ≡ length (moves_bytes self.now.journal.now self.now.board.now.made)) × (result ≤ 4 * self.now.board.now.made) }
     {
