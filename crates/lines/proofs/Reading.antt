@@ -4,7 +4,7 @@
 use Prim.Native.Nat.{ℕ, ◌+◌, ◌-◌, ◌≤◌, ◌<◌}
 use mathlib.Core.Path.{◌≡◌, refl, sym, ap, ◌∙◌}
 use mathlib.Core.Bool.{true, false, not}
-use mathlib.Core.List.{List, [], ◌∷◌, ◌++◌}
+use mathlib.Core.List.{List, [], ◌∷◌}
 use native.Mathlib.Omega.{arith}
 use borrow.Author.Tests.{eqb-true, eqb-false, lt-ltb, le-ltb, ltb-false}
 use lib.Dec.{ltb, eqb}
@@ -25,6 +25,7 @@ use Rattle.puzzle.proofs.Refusals.{refused_if_lem, or_else_by, or_else_past}
 use Rattle.puzzle.proofs.GivensBy.{by_same, by_room, bytes_left, bytes_turn, bytes_none}
 use Rattle.journal.specs.Bytes.{over}
 use Rattle.record.specs.Write.{wrote}
+use Rattle.record.proofs.Laying.{Walk}
 use Rattle.record.proofs.Writing.{wrote_bytes}
 use Rattle.lines.specs.Lines.{line_bytes, givens_room, is_line, value_at, other_sort, line_refusal, values_of, line_givens, digits_bytes, read_refusal, read_line_of}
 use Rattle.lines.specs.Code.Triples.{given_bytes}
@@ -108,22 +109,22 @@ module _ (digits : List ℕ) where
   digits_room = by_room (holds_digit digits) (at digits)
 
   -- what is left to lay from a cell on
-  abbrev pub digits_left : ℕ → List ℕ
+  unfoldable pub digits_left : ℕ → List ℕ
   digits_left cell = bytes_left triple_bytes (holds_digit digits) (at digits) cell
 
   abbrev triple : Given → List ℕ
   triple g = g.row ∷ g.column ∷ g.digit ∷ []
 
-  pub digits_turn : (cell : ℕ) → cell < 82 → digits_left cell ≡ given_bytes digits cell ++ digits_left (cell + 1)
-  unfolding given_bytes triple_bytes
-  digits_turn cell h = bytes_turn triple_bytes triple refl (λ g gs. refl) (holds_digit digits) (at digits) cell h
-
-  pub digits_none : (cell : ℕ) → 82 ≤ cell → digits_left cell ≡ []
-  unfolding triple_bytes
-  digits_none cell h = bytes_none triple_bytes triple refl (λ g gs. refl) (holds_digit digits) (at digits) cell h
+  pub digits_walk : Walk digits_left (given_bytes digits) 82
+  unfolding digits_left given_bytes triple_bytes
+  digits_walk =
+      record {
+        turn = bytes_turn triple_bytes triple refl (λ g gs. refl) (holds_digit digits) (at digits);
+        none = bytes_none triple_bytes triple refl (λ g gs. refl) (holds_digit digits) (at digits);
+      }
 
   pub digits_all : digits_bytes digits ≡ digits_left 1
-  unfolding digits_bytes
+  unfolding digits_left digits_bytes
   digits_all = refl
 
 -- ---- what reading answers

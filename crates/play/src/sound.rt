@@ -63,6 +63,7 @@ impl Stored for Asked {
 }
 
 // 14 of the first of the slots, or of the checks, 1 to count that is unsound.
+#[tactic(auto, using(puzzle::proofs::Refusals::walk_refused, puzzle::proofs::Refusals::walk_more, puzzle::proofs::Refusals::walk_all, crate::proofs::Accepted::unsound_numbered))]
 pub fn all_sound<S: Stored>(given: &[u8; 81], memory: &[u8], count: usize) -> Result<(), Unsound>
     ensures { told unsound_refusal result ≡ first_refused (S.unsound given.now memory.now) count 1 }
 {

@@ -69,41 +69,39 @@ module _ (out₀ : List ℕ) (start : ℕ) (all out : List ℕ) (at : ℕ) (left
   pub laying_end : left ≡ [] → (at ≡ start + length all) × (out ≡ over out₀ start all)
   laying_end e = (omega (arith, l.ends, ap length e), sym (over_nil out at) ∙ ap (over out at) (sym e) ∙ l.whole)
 
--- ---- items of a walk
+-- ---- walks that lay the parts of the numbers up to e, which is not reached, one after the other
 
--- what is left of the items of a function's values at the numbers from i up to e, which is not reached
+-- `left` is what is left to lay from a number on
+pub record Walk (left part : ℕ → List ℕ) (e : ℕ) : Type 0 where
+  pub turn : (i : ℕ) → i < e → left i ≡ part i ++ left (i + 1)
+  pub none : (i : ℕ) → e ≤ i → left i ≡ []
+
+module _ (left part : ℕ → List ℕ) (e : ℕ) (w : Walk left part e) (out₀ : List ℕ) (start : ℕ) (all out : List ℕ) (at i : ℕ) (l : Laying out₀ start all out at (left i)) where
+  pub part_room : i < e → at + length (part i) ≤ length out
+  part_room h = laying_room _ _ _ _ _ _ l (part i) (left (i + 1)) (w.turn i h)
+
+  pub part_laid : (next : List ℕ) (on : ℕ) → i < e → (on ≡ at + length (part i)) × (next ≡ over out at (part i)) → Laying out₀ start all next on (left (i + 1))
+  part_laid next on h q = laying_more _ _ _ _ _ _ l (part i) (left (i + 1)) next on (w.turn i h) q.0 q.1
+
+  pub all_laid : e ≤ i → (bytes : List ℕ) → bytes ≡ all → (at ≡ start + length bytes) × (out ≡ over out₀ start bytes)
+  all_laid h bytes q =
+      let end = laying_end _ _ _ _ _ _ l (w.none i h) in
+      (omega (arith, end.0, ap length q), end.1 ∙ ap (over out₀ start) (sym q))
+
+-- what is left of the items of a function's values
 unfoldable pub items_left : (ℕ → Item) → ℕ → ℕ → List ℕ
 items_left items e i = encode_all (listed items (e - i) i)
 
-module _ (items : ℕ → Item) (e i : ℕ) where
-  pub items_turn : i < e → items_left items e i ≡ encode (items i) ++ items_left items e (i + 1)
-  unfolding items_left listed encode_all
-  items_turn h =
-      ap (λ (n : ℕ). encode_all (listed items n i)) (left_one e i h)
-      ∙ ap (λ (k : ℕ). encode (items i) ++ encode_all (listed items (e - (i + 1)) k)) (sym (add-one i))
-
-  pub items_none : e ≤ i → items_left items e i ≡ []
-  unfolding items_left listed encode_all
-  items_none h = ap (λ (n : ℕ). encode_all (listed items n i)) (sub-eq-zero_of_le h)
-
--- a turn that lays the item at i, which the code holds as x; and the end
-module _ (items : ℕ → Item) (e : ℕ) (out₀ : List ℕ) (start : ℕ) (all out : List ℕ) (at i : ℕ)
-    (l : Laying out₀ start all out at (items_left items e i)) where
-  pub item_room : (x : Item) → i < e → x ≡ items i → at + length (encode x) ≤ length out
-  item_room x h q =
-      laying_room _ _ _ _ _ _ l (encode x) (items_left items e (i + 1))
-      (items_turn items e i h ∙ ap (λ (y : Item). encode y ++ items_left items e (i + 1)) (sym q))
-
-  pub item_laid : (x : Item) (next : List ℕ) (on : ℕ) → i < e → x ≡ items i → on ≡ at + length (encode x) → next ≡ over out at (encode x)
-      → Laying out₀ start all next on (items_left items e (i + 1))
-  item_laid x next on h q =
-      laying_more _ _ _ _ _ _ l (encode x) (items_left items e (i + 1)) next on
-      (items_turn items e i h ∙ ap (λ (y : Item). encode y ++ items_left items e (i + 1)) (sym q))
-
-  pub items_laid : e ≤ i → (bytes : List ℕ) → bytes ≡ all → (at ≡ start + length bytes) × (out ≡ over out₀ start bytes)
-  items_laid h bytes q =
-      let end = laying_end _ _ _ _ _ _ l (items_none items e i h) in
-      (omega (arith, end.0, ap length q), end.1 ∙ ap (over out₀ start) (sym q))
+pub items_walk : (items : ℕ → Item) (e : ℕ) → Walk (items_left items e) (λ i. encode (items i)) e
+unfolding items_left listed encode_all
+items_walk items e =
+    record {
+      turn =
+          λ i h.
+          ap (λ (n : ℕ). encode_all (listed items n i)) (left_one e i h)
+          ∙ ap (λ (k : ℕ). encode (items i) ++ encode_all (listed items (e - (i + 1)) k)) (sym (add-one i));
+      none = λ i h. ap (λ (n : ℕ). encode_all (listed items n i)) (sub-eq-zero_of_le h);
+    }
 
 back_one : (n : ℕ) → n + 1 - 1 ≡ n
 back_one n = omega arith
@@ -129,6 +127,18 @@ checks_by checks n = ap encode_all (map_listed check_item (asked_at checks) n 1)
 pub moves_left : (journal : List ℕ) (made : ℕ) → moves_bytes journal made ≡ items_left (move_in journal) (made + 1) 1
 moves_left journal made = moves_by journal made ∙ all_left (move_in journal) made
 
+-- how many bytes the moves have: all, the move at n and those behind it, none
+pub length_all : (journal : List ℕ) (made : ℕ) → length (moves_bytes journal made) ≡ length (items_left (move_in journal) (made + 1) 1)
+length_all journal made = ap length (moves_left journal made)
+
+module _ (journal : List ℕ) (made n : ℕ) where
+  pub length_turn : n < made + 1
+      → length (items_left (move_in journal) (made + 1) n) ≡ length (encode (Played (move_of (slot_at journal n)))) + length (items_left (move_in journal) (made + 1) (n + 1))
+  length_turn h = ap length ((items_walk (move_in journal) (made + 1)).turn n h) ∙ length-append (encode (move_in journal n)) (items_left (move_in journal) (made + 1) (n + 1))
+
+  pub length_none : made + 1 ≤ n → length (items_left (move_in journal) (made + 1) n) ≡ 0
+  length_none h = ap length ((items_walk (move_in journal) (made + 1)).none n h)
+
 -- ---- givens
 
 -- the bytes of givens as items
@@ -139,13 +149,13 @@ module _ (b : Board) where
   unfoldable pub givens_left : ℕ → List ℕ
   givens_left cell = bytes_left items_bytes (is_given b.given) (at b.digits) cell
 
-  pub givens_turn : (cell : ℕ) → cell < 82 → givens_left cell ≡ given_bytes b.given b.digits cell ++ givens_left (cell + 1)
+  pub givens_walk : Walk givens_left (given_bytes b.given b.digits) 82
   unfolding givens_left given_bytes encode_all encode given_item
-  givens_turn cell h = bytes_turn items_bytes (λ g. encode (given_item g)) refl (λ g gs. refl) (is_given b.given) (at b.digits) cell h
-
-  pub givens_none : (cell : ℕ) → 82 ≤ cell → givens_left cell ≡ []
-  unfolding givens_left encode_all
-  givens_none cell h = bytes_none items_bytes (λ g. encode (given_item g)) refl (λ g gs. refl) (is_given b.given) (at b.digits) cell h
+  givens_walk =
+      record {
+        turn = bytes_turn items_bytes (λ g. encode (given_item g)) refl (λ g gs. refl) (is_given b.given) (at b.digits);
+        none = bytes_none items_bytes (λ g. encode (given_item g)) refl (λ g gs. refl) (is_given b.given) (at b.digits);
+      }
 
   pub givens_all : givens_bytes b ≡ givens_left 1
   unfolding givens_bytes givens_of givens_left
@@ -191,23 +201,23 @@ module _ (b : Board) (journal checks out : List ℕ) (h : length (record_of (par
   pub givens_room_lem : length (givens_bytes b) ≤ length out
   givens_room_lem = omega (arith, laying_room _ _ _ _ _ _ laying_0 (givens_bytes b) (of_moves ++ (count_bytes ++ of_checks)) groups)
 
-  module _ (out1 : List ℕ) (at1 : ℕ) (e1 : at1 ≡ length (givens_bytes b)) (o1 : out1 ≡ over out 0 (givens_bytes b)) where
+  module _ (out1 : List ℕ) (at1 : ℕ) (l1 : (at1 ≡ length (givens_bytes b)) × (out1 ≡ over out 0 (givens_bytes b))) where
     laying_1 : Laying out 0 (record_of (parts_of b journal checks)) out1 at1 (of_moves ++ (count_bytes ++ of_checks))
-    laying_1 = laying_more _ _ _ _ _ _ laying_0 (givens_bytes b) (of_moves ++ (count_bytes ++ of_checks)) out1 at1 groups (omega arith) o1
+    laying_1 = laying_more _ _ _ _ _ _ laying_0 (givens_bytes b) (of_moves ++ (count_bytes ++ of_checks)) out1 at1 groups (omega (arith, l1.0)) l1.1
 
     pub moves_room : at1 + length of_moves ≤ length out1
     moves_room = laying_room _ _ _ _ _ _ laying_1 of_moves (count_bytes ++ of_checks) refl
 
-    module _ (out2 : List ℕ) (at2 : ℕ) (e2 : at2 ≡ at1 + length of_moves) (o2 : out2 ≡ over out1 at1 of_moves) where
+    module _ (out2 : List ℕ) (at2 : ℕ) (l2 : (at2 ≡ at1 + length of_moves) × (out2 ≡ over out1 at1 of_moves)) where
       laying_2 : Laying out 0 (record_of (parts_of b journal checks)) out2 at2 (count_bytes ++ of_checks)
-      laying_2 = laying_more _ _ _ _ _ _ laying_1 of_moves (count_bytes ++ of_checks) out2 at2 refl e2 o2
+      laying_2 = laying_more _ _ _ _ _ _ laying_1 of_moves (count_bytes ++ of_checks) out2 at2 refl l2.0 l2.1
 
       pub count_room : at2 + 3 ≤ length out2
       count_room = laying_room _ _ _ _ _ _ laying_2 count_bytes of_checks refl
 
-      module _ (out3 : List ℕ) (at3 : ℕ) (e3 : at3 ≡ at2 + 3) (o3 : out3 ≡ over out2 at2 count_bytes) where
+      module _ (out3 : List ℕ) (at3 : ℕ) (l3 : (at3 ≡ at2 + 3) × (out3 ≡ over out2 at2 count_bytes)) where
         laying_3 : Laying out 0 (record_of (parts_of b journal checks)) out3 at3 of_checks
-        laying_3 = laying_more _ _ _ _ _ _ laying_2 count_bytes of_checks out3 at3 refl e3 o3
+        laying_3 = laying_more _ _ _ _ _ _ laying_2 count_bytes of_checks out3 at3 refl l3.0 l3.1
 
         pub checks_room : at3 + length of_checks ≤ length out3
         checks_room = laying_3.fits

@@ -180,44 +180,24 @@ module _ (s : Progress) (at : ℕ) (is : Items) (r : Refusal) (c : Scanned) wher
   unfolding scan
   after i t e = ap (λ (n : ℕ). scan (reached i) n is) (add-one s.item) ∙ sym (pick_true _ _ _ t) ∙ e
 
+  -- the step that a test lets through
+  stepped : (t : Bool) (on next : Progress) → pick t (Some on) None ≡ Some next → (t ≡ true → Comes on is r c) → Comes next is r c
+  stepped t on next e h = subst (λ (n : Progress). Comes n is r c) (picked t on next e).1 (h (picked t on next e).0)
+
   pub steps_on : (i : Item) (next : Progress) → Comes s (then i is) r c → item_step s i at ≡ Some next → Comes next is r c
   unfolding item_step given_step move_step undone_step check_step may_stand reached parts_in add any_late either pick
   steps_on (Given g) next h e =
-      let q = picked _ _ next e in
-      subst (λ (n : Progress). Comes n is r c) q.1
-      (record {
-        refusal = (λ j. scan (eqb-true phase 0 q.0 j) (s.item + 1) is) ∙ after (Given g) q.0 h.refusal;
-        counts =
-            (λ j. scanned (one_more s.counts.givens g p.givens j) (s.counts.moves + length p.moves) (pick (eqb phase 2) s.counts.undone p.undone) (s.counts.checks + length p.checks) (either s.counts.late (any_late p.checks)))
-            ∙ h.counts;
-      })
+      stepped _ _ next e
+      (λ t. record { refusal = rw (eqb-true phase 0 t) (after (Given g) t h.refusal); counts = rw (one_more s.counts.givens g p.givens) h.counts })
   steps_on (Played m) next h e =
-      let q = picked _ _ next e in
-      subst (λ (n : Progress). Comes n is r c) q.1
-      (record {
-        refusal = after (Played m) q.0 h.refusal;
-        counts =
-            (λ j. scanned (s.counts.givens + length p.givens) (one_more s.counts.moves m p.moves j) (sym (pick_false (eqb phase 2) s.counts.undone p.undone (before_count phase q.0)) j) (s.counts.checks + length p.checks) (either s.counts.late (any_late p.checks)))
-            ∙ h.counts;
-      })
+      stepped _ _ next e
+      (λ t. record { refusal = after (Played m) t h.refusal; counts = rw (one_more s.counts.moves m p.moves, ← pick_false (eqb phase 2) s.counts.undone p.undone (before_count phase t)) h.counts })
   steps_on (Undone n) next h e =
-      let q = picked _ _ next e in
-      subst (λ (n : Progress). Comes n is r c) q.1
-      (record {
-        refusal = after (Undone n) q.0 h.refusal;
-        counts =
-            (λ j. scanned (s.counts.givens + length p.givens) (s.counts.moves + length p.moves) (sym (pick_false (eqb phase 2) s.counts.undone n (before_count phase q.0)) j) (s.counts.checks + length p.checks) (either s.counts.late (any_late p.checks)))
-            ∙ h.counts;
-      })
+      stepped _ _ next e
+      (λ t. record { refusal = after (Undone n) t h.refusal; counts = rw (← pick_false (eqb phase 2) s.counts.undone n (before_count phase t)) h.counts })
   steps_on (Check a) next h e =
-      let q = picked _ _ next e in
-      subst (λ (n : Progress). Comes n is r c) q.1
-      (record {
-        refusal = (λ j. scan (eqb-true phase 2 q.0 j) (s.item + 1) is) ∙ after (Check a) q.0 h.refusal;
-        counts =
-            (λ j. scanned (s.counts.givens + length p.givens) (s.counts.moves + length p.moves) (pick (eqb phase 2) s.counts.undone p.undone) (one_more s.counts.checks a p.checks j) (either_assoc s.counts.late (not (leb a.standing max_moves)) (any_late p.checks) j))
-            ∙ h.counts;
-      })
+      stepped _ _ next e
+      (λ t. record { refusal = rw (eqb-true phase 2 t) (after (Check a) t h.refusal); counts = rw (one_more s.counts.checks a p.checks, either_assoc s.counts.late (not (leb a.standing max_moves)) (any_late p.checks)) h.counts })
 
   -- or with one that may not
   pub stops : (i : Item) → Comes s (then i is) r c → item_step s i at ≡ None → refusal 17 s.item 0 ≡ r

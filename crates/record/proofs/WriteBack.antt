@@ -2,6 +2,8 @@
 -- the parts that they hold, and the numbers of these parts fit two bytes.
 -- Assumes nothing.
 use Prim.Native.Nat.{ℕ, zero, suc, ◌<◌}
+use mir.Syntax.{w8}
+use mir.Val.{Fits as FitsType}
 use mathlib.Core.Path.{◌≡◌, refl, sym, ap, subst, ◌∙◌}
 use mathlib.Core.Bool.{true, false}
 use mathlib.Core.List.{List, [], ◌∷◌, ◌++◌, map}
@@ -242,3 +244,7 @@ module _ (bytes : List ℕ) (are : Each IsByte bytes) (h : malformed bytes ≡ a
 -- the same from the statement that each entry is below 256
 pub are_bytes : (l : List ℕ) → ((i : ℕ) → i < length l → get_or l i 0 < 256) → Each IsByte l
 are_bytes l h = each_of IsByte l 0 h
+
+-- and from what the type of a slice of bytes says
+pub bytes_fit : (l : List ℕ) → ((i : ℕ) → FitsType w8 (get_or l i 0)) → Each IsByte l
+bytes_fit l h = are_bytes l (λ i u. (h i).fits)

@@ -1,20 +1,19 @@
 -- What writing tests, and what it answers: 1, 2 and 14 one after the other, then 34 by the record's length.
 -- Assumes nothing.
-use Prim.Native.Nat.{ℕ, ◌≤◌, ◌<◌}
+use Prim.Native.Nat.{ℕ}
 use mathlib.Core.Path.{◌≡◌, refl, sym, ap, ◌∙◌}
 use mathlib.Core.Bool.{Bool}
 use mathlib.Core.List.{List, []}
 use native.Mathlib.Omega.{arith}
-use borrow.Author.Tests.{eq-eqb, ne_eqb, lt-ltb, le-ltb}
-use lib.Dec.{ltb, eqb}
+use borrow.Author.Tests.{eq-eqb, ne_eqb}
+use lib.Dec.{eqb}
 use lib.ListN.{length}
 use Rattle.sudoku.specs.Tests.{first, both}
 use Rattle.sudoku.proofs.Walks.{pick_true, pick_false}
 use Rattle.puzzle.specs.declared.Refusal.{Refusal}
 use Rattle.std.specs.Prelude.{Result, Ok, Err, IfOk, OnErr, MatchResult}
-use Rattle.puzzle.specs.Refusals.{told, refusal, accepted, is_accepted, refused_if, or_else, first_refused}
-use Rattle.puzzle.proofs.Accepted.{if_not}
-use Rattle.puzzle.proofs.Refusals.{refused_if_lem, or_else_by, or_else_passed, or_else_past}
+use Rattle.puzzle.specs.Refusals.{told, accepted, is_accepted, or_else, first_refused}
+use Rattle.puzzle.proofs.Refusals.{or_else_by, or_else_passed}
 use Rattle.journal.specs.Limits.{journal_bytes, check_memory}
 use Rattle.journal.specs.Bytes.{over}
 use Rattle.board.specs.declared.Board.{Board}
@@ -26,13 +25,9 @@ use Rattle.play.specs.Play.{unsound_slot, journal_refusal, unsound_check}
 use Rattle.play.specs.declared.sound.Unsound.{Unsound}
 use Rattle.play.specs.Unsound.{unsound_refusal}
 use Rattle.play.proofs.Accepted.{lent_refuses, slots_decide}
-use Rattle.record.specs.declared.error.WriteError.{WriteError}
-use Rattle.record.specs.Errors.{write_error_refusal}
 use Rattle.play.proofs.Accepted.{unsound_numbered}
-use Rattle.record.proofs.Errors.{write_numbered}
-use Rattle.record.specs.Items.{record_of}
 use Rattle.record.specs.declared.Written.{Written}
-use Rattle.record.specs.Write.{parts_of, unwritable, write_refusal, Wrote, wrote, wrote_by}
+use Rattle.record.specs.Write.{unwritable, Wrote, wrote, wrote_by}
 
 -- ---- 1, 2 and 14
 
@@ -83,24 +78,3 @@ told_wrote f numbered r bytes output after (Ok n) answer why laid kept told_ok =
 told_wrote f numbered r bytes output after (Err e) answer why laid kept told_err =
     let w = wrote_nothing r bytes output (f e) (sym why) (numbered e) in
     ((λ i. (wrote (told_err.0 i) (told_err.1 i) output).answer) ∙ ap (λ (x : Wrote). x.answer) w, kept ∙ ap (λ (x : Wrote). x.output) w)
-
--- ---- what writing a record answers: the same, and 34
-
-module _ (b : Board) (journal checks output : List ℕ) where
-  abbrev short : Refusal
-  short = refused_if (ltb (length output) (length (record_of (parts_of b journal checks)))) (refusal 34 0 0)
-
-  pub not_kept : (e : WriteError) → write_error_refusal e ≡ unwritable b journal checks → write_error_refusal e ≡ write_refusal b journal checks output
-  unfolding write_refusal
-  not_kept e p = sym (or_else_by _ short (write_error_refusal e) (sym p) (write_numbered e))
-
-  module _ (kept : accepted ≡ unwritable b journal checks) (size : ℕ) (is : size ≡ length (record_of (parts_of b journal checks))) where
-    by_length : write_refusal b journal checks output ≡ short
-    unfolding write_refusal
-    by_length = or_else_past _ short (sym kept)
-
-    pub too_short : length output < size → refusal 34 0 0 ≡ write_refusal b journal checks output
-    too_short h = sym (by_length ∙ refused_if_lem _ (refusal 34 0 0) (ap (ltb (length output)) (sym is) ∙ lt-ltb (length output) size h))
-
-    pub long_enough : size ≤ length output → accepted ≡ write_refusal b journal checks output
-    long_enough h = sym (by_length ∙ if_not _ (refusal 34 0 0) (ap (ltb (length output)) (sym is) ∙ le-ltb (length output) size h))

@@ -200,6 +200,7 @@ impl<'a> Kept<'a> {
     }
 
     // How many bytes the items of slots 1 to made have.
+    #[tactic(auto, using(crate::proofs::Laying::length_all, crate::proofs::Laying::length_turn, crate::proofs::Laying::length_none))]
     fn moves_length(&self) -> usize
         ensures { (result ≡ length (moves_bytes self.now.journal.now self.now.board.now.made)) × (result ≤ 4 * self.now.board.now.made) }
     {
@@ -254,6 +255,7 @@ impl Written {
 }
 
 // Lays the record into the output; answers its length.
+#[tactic(auto, unfolding(crate::specs::Write::write_refusal, puzzle::specs::Refusals::or_else, puzzle::specs::Refusals::refused_if, puzzle::specs::Refusals::is_accepted, sudoku::specs::Tests::pick))]
 fn written(
     board: &Board,
     journal: &[u8],

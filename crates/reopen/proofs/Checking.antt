@@ -2,23 +2,21 @@
 -- Assumes nothing.
 use Prim.Native.Nat.{ℕ, suc, ◌+◌, ◌-◌, ◌*◌, ◌≤◌, ◌<◌}
 use mathlib.Core.Path.{◌≡◌, refl, sym, ap, ◌∙◌}
-use mathlib.Core.Bool.{Bool, true, false, not}
+use mathlib.Core.Bool.{not}
 use mathlib.Core.List.{List, [], ◌∷◌, ◌++◌, map}
 use native.Mathlib.Nat.{sub-eq-zero_of_le}
 use native.Mathlib.Numerals.{add-one}
 use native.Mathlib.Omega.{arith}
-use borrow.Author.Tests.{eqb-false, eq-eqb, ne_eqb}
 use lib.Dec.{eqb}
 use lib.ListN.{length, length-map}
 use Rattle.puzzle.specs.Givens.{is_given}
-use Rattle.sudoku.specs.Tests.{◌⇒◌, first, both, count, listed}
-use Rattle.sudoku.specs.Grid.{in_range, on_grid, cell_of}
-use Rattle.sudoku.proofs.Walks.{not_is_true, not_is_false, both_true, both_false_left, both_false_right, left_one, count_same}
+use Rattle.sudoku.specs.Tests.{both, count, listed}
+use Rattle.sudoku.specs.Grid.{cell_of}
+use Rattle.sudoku.proofs.Walks.{left_one, count_same}
 use Rattle.sudoku.proofs.Listed.{length_listed}
 use Rattle.puzzle.specs.declared.Refusal.{Refusal}
 use Rattle.puzzle.specs.Refusals.{refusal, accepted, refused_if, or_else}
-use Rattle.puzzle.proofs.Accepted.{if_not}
-use Rattle.puzzle.proofs.Refusals.{refused_if_lem, or_else_by, or_else_passed, or_else_past}
+use Rattle.puzzle.proofs.Refusals.{or_else_by, or_else_passed}
 use Rattle.journal.specs.Limits.{check_item_bytes, check_bytes}
 use Rattle.journal.specs.StoredChecks.{is_right, judged, stored_bytes, stored_all}
 use Rattle.journal.specs.Code.Laid.{laid}
@@ -44,44 +42,6 @@ cells_to_play b =
       count_not (λ cell. is_given b.given cell) 81 1,
       count_same (λ cell. is_given b.given cell) (is_given b.given) 81 1 (λ k l u. refl),
     )
-
--- ---- one check
-
-module _ (b : Board) (cells k : ℕ) (c : Asked) (n : ℕ) (e : n ≡ asked_number b.given c) where
-  abbrev third : Refusal
-  third = refused_if (both (is_right b.solution (cell_of c.row c.column) c.digit) (eqb cells 1)) (refusal 33 k 0)
-
-  abbrev from32 : Refusal
-  from32 = or_else (refused_if (eqb c.standing 0) (refusal 32 k 0)) third
-
-  is : check_refusal b cells k c ≡ or_else (refused_if (not (eqb n 0)) (refusal 31 k n)) from32
-  unfolding check_refusal asked_number state_of
-  is = ap (λ (x : ℕ). or_else (refused_if (not (eqb x 0)) (refusal 31 k x)) from32) (sym e)
-
-  pub refused_31 : (n ≡ 0 → ⊥) → refusal 31 k n ≡ check_refusal b cells k c
-  refused_31 h =
-      sym (is ∙ or_else_by _ from32 (refusal 31 k n) (refused_if_lem _ (refusal 31 k n) (not_is_true _ (ne_eqb n 0 h))) (eqb-false 31 0 refl))
-
-  module _ (z : n ≡ 0) where
-    past_31 : check_refusal b cells k c ≡ from32
-    past_31 = is ∙ or_else_past _ from32 (if_not _ (refusal 31 k n) (not_is_false _ (eq-eqb n 0 z)))
-
-    pub refused_32 : c.standing ≡ 0 → refusal 32 k 0 ≡ check_refusal b cells k c
-    refused_32 h =
-        sym (past_31 ∙ or_else_by _ third (refusal 32 k 0) (refused_if_lem _ (refusal 32 k 0) (eq-eqb c.standing 0 h)) (eqb-false 32 0 refl))
-
-    module _ (some : c.standing ≡ 0 → ⊥) (right : Bool) (w : right ≡ is_right b.solution (cell_of c.row c.column) c.digit) where
-      past_32 : check_refusal b cells k c ≡ third
-      past_32 = past_31 ∙ or_else_past _ third (if_not _ (refusal 32 k 0) (ne_eqb c.standing 0 some))
-
-      pub wrong_digit : right ≡ false → accepted ≡ check_refusal b cells k c
-      wrong_digit h = sym (past_32 ∙ if_not _ (refusal 33 k 0) (both_false_left _ (eqb cells 1) (sym w ∙ h)))
-
-      pub refused_33 : right ≡ true → cells ≡ 1 → refusal 33 k 0 ≡ check_refusal b cells k c
-      refused_33 h one = sym (past_32 ∙ refused_if_lem _ (refusal 33 k 0) (both_true _ (eqb cells 1) (sym w ∙ h) (eq-eqb cells 1 one)))
-
-      pub past_33 : (cells ≡ 1 → ⊥) → accepted ≡ check_refusal b cells k c
-      past_33 more = sym (past_32 ∙ if_not _ (refusal 33 k 0) (both_false_right _ (eqb cells 1) (ne_eqb cells 1 more)))
 
 -- ---- all checks
 
@@ -179,18 +139,16 @@ module _ (bytes : List ℕ) (start count k : ℕ) (b : Board) (cells : ℕ) (mem
 module _ (bytes : List ℕ) (start count k : ℕ) (b : Board) (cells : ℕ) (memory checks : List ℕ) (at : ℕ) (h : count + 1 ≤ k) (c : cells ≡ to_play b)
     (tested : checks_refusal b cells 1 (asks_left bytes start count 1) ≡ checks_refusal b cells k (asks_left bytes start count k))
     (stored : Laying memory 0 (stored_of b.solution (asks_left bytes start count 1)) checks at (stored_of b.solution (asks_left bytes start count k))) where
-  pub all_tested : accepted ≡ checks_refusal b (to_play b) 1 (asks_at bytes start count)
-  all_tested =
-      sym
-      (ap (checks_refusal b (to_play b) 1) (asks_all bytes start count)
-      ∙ ap (λ (n : ℕ). checks_refusal b n 1 (asks_left bytes start count 1)) (sym c)
-      ∙ tested
-      ∙ check_ends bytes start count k h b cells)
-
-  pub all_stored : checks ≡ over memory 0 (stored_of b.solution (asks_at bytes start count))
-  all_stored =
-      (laying_end _ _ _ _ _ _ stored (stored_ends bytes start count k h b.solution)).1
-      ∙ ap (λ (l : List Asked). over memory 0 (stored_of b.solution l)) (sym (asks_all bytes start count))
+  pub all_read : (accepted ≡ checks_refusal b (to_play b) 1 (asks_at bytes start count)) × (checks ≡ over memory 0 (stored_of b.solution (asks_at bytes start count)))
+  all_read = (
+    sym
+        (ap (checks_refusal b (to_play b) 1) (asks_all bytes start count)
+        ∙ ap (λ (n : ℕ). checks_refusal b n 1 (asks_left bytes start count 1)) (sym c)
+        ∙ tested
+        ∙ check_ends bytes start count k h b cells),
+    (laying_end _ _ _ _ _ _ stored (stored_ends bytes start count k h b.solution)).1
+        ∙ ap (λ (l : List Asked). over memory 0 (stored_of b.solution l)) (sym (asks_all bytes start count)),
+  )
 
 -- ---- boards that have the same givens and the same solution
 
@@ -200,25 +158,10 @@ module _ (b c : Board) (g : b.given ≡ c.given) (s : b.solution ≡ c.solution)
   to_play_same = ap (λ (l : List ℕ). count (λ cell. not (is_given l cell)) 81 1) g
 
   check_same : (cells k : ℕ) (a : Asked) → check_refusal b cells k a ≡ check_refusal c cells k a
-  unfolding check_refusal state_of
+  unfolding check_refusal asked_number state_of
   check_same cells k a =
       λ j.
-      or_else
-      (refused_if
-      (not
-      (eqb
-      (first
-      ((not (on_grid a.row a.column) ⇒ 3)
-      ∷ (is_given (g j) (cell_of a.row a.column) ⇒ 5)
-      ∷ (not (in_range a.digit) ⇒ 8)
-      ∷ []))
-      0))
-      (refusal 31 k
-      (first
-      ((not (on_grid a.row a.column) ⇒ 3)
-      ∷ (is_given (g j) (cell_of a.row a.column) ⇒ 5)
-      ∷ (not (in_range a.digit) ⇒ 8)
-      ∷ []))))
+      or_else (refused_if (not (eqb (asked_number (g j) a) 0)) (refusal 31 k (asked_number (g j) a)))
       (or_else (refused_if (eqb a.standing 0) (refusal 32 k 0))
       (refused_if (both (is_right (s j) (cell_of a.row a.column) a.digit) (eqb cells 1)) (refusal 33 k 0)))
 

@@ -68,11 +68,11 @@ module _ (b : Board) (journal : List ℕ) (k : ℕ) (m : Move) where
         absurd (omega (arith, no))))
 
   -- the move made and recorded: the board afterwards, and the journal
-  pub next_made : (after : Board) → after ≡ moved b (perform (state_of b) m) (recorded (counts_of b)) → after ≡ (record_move b journal m).answer.board
+  next_made : (after : Board) → after ≡ moved b (perform (state_of b) m) (recorded (counts_of b)) → after ≡ (record_move b journal m).answer.board
   unfolding record_move
   next_made after e = e
 
-  pub next_wrote : (out : List ℕ) → out ≡ laid journal (slot_bytes * b.standing) (bytes_of (slot_for (state_of b) m)) → slot_bytes * b.standing + slot_bytes ≤ length journal
+  next_wrote : (out : List ℕ) → out ≡ laid journal (slot_bytes * b.standing) (bytes_of (slot_for (state_of b) m)) → slot_bytes * b.standing + slot_bytes ≤ length journal
       → out ≡ (record_move b journal m).journal
   unfolding record_move bytes_of
   next_wrote out e room = e ∙ laid_over _ _ _ room
@@ -91,17 +91,21 @@ module _ (bytes : List ℕ) (at k count : ℕ) (b : Board) (journal : List ℕ) 
   pub turn_stops : (r : Refusal) → r ≡ next_refusal (state_of b) k m → (r.number ≡ 0 → ⊥) → r ≡ (replay b journal k left).answer.refusal
   turn_stops r e n = sym (ap (λ (x : Played). x.answer.refusal) (ap (replay b journal k) left_is ∙ replay_stops b journal k m _ r e n))
 
-  pub turn_goes_on : accepted ≡ next_refusal (state_of b) k m → (c : Board) (out : List ℕ) → c ≡ (record_move b journal m).answer.board → out ≡ (record_move b journal m).journal
+  pub turn_goes_on : accepted ≡ next_refusal (state_of b) k m → (c : Board) (out : List ℕ)
+      → (c ≡ moved b (perform (state_of b) m) (recorded (counts_of b))) × (out ≡ laid journal (slot_bytes * b.standing) (bytes_of (slot_for (state_of b) m)))
+      → slot_bytes * b.standing + slot_bytes ≤ length journal
       → (size : ℕ) → size ≡ length (encode (PlayedItem m))
-      → replay b journal k left ≡ replay c out (k + 1) (moves_at bytes (at + size) (count + 1 - (k + 1)))
-  turn_goes_on goes c out p q size w =
-      ap (replay b journal k) left_is
-      ∙ replay_goes_on b journal k m goes _
-      ∙ (λ j. replay (sym p j) (sym q j) (sym (add-one k) j) (moves_at bytes (at + sym w j) (count + 1 - (k + 1))))
+      → (all : Played) → replay b journal k left ≡ all → replay c out (k + 1) (moves_at bytes (at + size) (count + 1 - (k + 1))) ≡ all
+  turn_goes_on goes c out made room size w all e =
+      (λ j. replay (next_made b journal k m c made.0 j) (next_wrote b journal k m out made.1 room j) (add-one k j) (moves_at bytes (at + w j) (count + 1 - (k + 1))))
+      ∙ sym (ap (replay b journal k) left_is ∙ replay_goes_on b journal k m goes _)
+      ∙ e
 
 -- nothing is left
-pub replay_ends : (bytes : List ℕ) (at k count : ℕ) (b : Board) (journal : List ℕ) → count + 1 ≤ k
-    → replay b journal k (moves_at bytes at (count + 1 - k)) ≡ played accepted b journal
+pub replay_ends : (bytes : List ℕ) (at k count : ℕ) (b : Board) (journal : List ℕ) (all : Played) → count + 1 ≤ k → replay b journal k (moves_at bytes at (count + 1 - k)) ≡ all
+    → (accepted ≡ all.answer.refusal) × ((b ≡ all.answer.board) × (journal ≡ all.journal))
 unfolding replay moves_at
-replay_ends bytes at k count b journal h =
-    let z : count + 1 - k ≡ 0 = omega arith in ap (λ (n : ℕ). replay b journal k (moves_at bytes at n)) z
+replay_ends bytes at k count b journal all h e =
+    let z : 0 ≡ count + 1 - k = omega arith in
+    let end = ap (λ (n : ℕ). replay b journal k (moves_at bytes at n)) z ∙ e in
+    (ap (λ (x : Played). x.answer.refusal) end, (ap (λ (x : Played). x.answer.board) end, ap (λ (x : Played). x.journal) end))

@@ -2,13 +2,15 @@
 -- where the board is solved and moves are undone, where a check is refused, and where nothing is.
 -- Assumes nothing.
 use Prim.Native.Nat.{ℕ, zero, suc, ◌-◌, ◌*◌, ◌≤◌}
+use mir.Syntax.{w8}
+use mir.Val.{Fits}
 use mathlib.Core.Path.{◌≡◌, refl, sym, ap, subst, ◌∙◌}
 use mathlib.Core.Bool.{Bool, true, false, not}
 use mathlib.Core.List.{List}
 use native.Mathlib.Omega.{arith}
 use borrow.Author.Tests.{eqb-true, eqb-false, eq-eqb, ne_eqb}
 use lib.Dec.{eqb}
-use lib.ListN.{length, replicate, length-replicate}
+use lib.ListN.{length, get_or, replicate, length-replicate}
 use Rattle.sudoku.specs.Tests.{first, pick, both}
 use Rattle.sudoku.proofs.Walks.{both_left, both_right, pick_true, pick_false}
 use Rattle.sudoku.proofs.Each.{Each}
@@ -17,7 +19,7 @@ use Rattle.puzzle.specs.declared.Refusal.{Refusal}
 use Rattle.puzzle.specs.Refusals.{refusal, accepted, is_accepted, refused_if, or_else}
 use Rattle.puzzle.specs.Givens.{is_on}
 use Rattle.puzzle.specs.Code.GivenBytes.{givens_in}
-use Rattle.std.specs.Prelude.{Result, Ok, Err}
+use Rattle.std.specs.Prelude.{Ok, Err}
 use Rattle.puzzle.proofs.Accepted.{accepts, if_not, or_else_left, or_else_right}
 use Rattle.puzzle.proofs.Refusals.{refused_if_lem, or_else_by, or_else_past}
 use Rattle.journal.specs.Limits.{max_moves, max_checks, journal_bytes, check_memory, check_item_bytes, given_item_bytes}
@@ -38,7 +40,7 @@ use Rattle.record.specs.Errors.{reopen_refusal}
 use Rattle.record.specs.Reopen.{oversized, unreadable, replay, take_back_all, to_play, checks_refusal, reopened, settled_record, replayed, reopen_of}
 use Rattle.record.specs.Code.Counting.{counts_of as counts_in}
 use Rattle.reopen.specs.Code.Reopening.{moves_at, asks_at, settled_by, reopened_of, Reopens}
-use Rattle.record.proofs.WriteBack.{IsByte, bytes_record, checks_fit}
+use Rattle.record.proofs.WriteBack.{IsByte, bytes_record, bytes_fit, checks_fit}
 use Rattle.record.proofs.Readable.{formed, sized, Sized}
 use Rattle.record.proofs.ReadRecord.{givens_read}
 use Rattle.reopen.proofs.PartsRead.{givens_fit, moves_stand, asks_stand, checks_fit as asks_fit}
@@ -47,17 +49,12 @@ use Rattle.reopen.proofs.Checking.{stored_of, to_play_same, checks_same}
 -- ---- answers
 
 module _ (o : Opened) (j c : List ℕ) where
-  pub reopens_refused : (r : Result Board ReopenError) (e : ReopenError) → r ≡ Err e → o ≡ turned_away (reopen_refusal e) → Reopens o r j c
+  pub reopens_refused : (e : ReopenError) → o ≡ turned_away (reopen_refusal e) → Reopens o (Err e) j c
   unfolding turned_away
-  reopens_refused r e w q =
-      subst (λ (x : Result Board ReopenError). Reopens o x j c) (sym w)
-      (record { refusal = sym (ap (λ (y : Opened). y.answer.refusal) q); rest = tt })
+  reopens_refused e q = record { refusal = sym (ap (λ (y : Opened). y.answer.refusal) q); rest = tt }
 
   pub reopens_given : (b : Board) → Gives o (answer accepted b) j c → Reopens o (Ok b) j c
   reopens_given b g = record { refusal = ap (λ (x : Answer). x.refusal) g.answer; rest = g }
-
-pub reopens_same : (o p : Opened) (r : Result Board ReopenError) (j c : List ℕ) → o ≡ p → Reopens p r j c → Reopens o r j c
-reopens_same o p r j c e g = subst (λ (x : Opened). Reopens x r j c) (sym e) g
 
 pub no_moves_length : length no_moves ≡ journal_bytes
 unfolding no_moves
@@ -150,7 +147,10 @@ unfolding reopened_of is_accepted
 unread bytes solution r e n =
     pick_false _ _ _ (ap is_accepted (sym e) ∙ ne_eqb r.number 0 n) ∙ ap turned_away (sym e)
 
-module _ (bytes solution : List ℕ) (well : accepted ≡ unreadable bytes solution) (s : Scanned) (counts : s ≡ counts_in (parts_of_bytes bytes)) (are : Each IsByte bytes) where
+module _ (bytes solution : List ℕ) (well : accepted ≡ unreadable bytes solution) (s : Scanned) (counts : s ≡ counts_in (parts_of_bytes bytes)) (fit : (i : ℕ) → Fits w8 (get_or bytes i 0)) where
+  are : Each IsByte bytes
+  are = bytes_fit bytes fit
+
   abbrev parts : Parts
   parts = parts_of_bytes bytes
 
@@ -231,15 +231,15 @@ module _ (bytes solution : List ℕ) (well : accepted ≡ unreadable bytes solut
 
     pub plays_on : accepted ≡ (replay b memory 1 (moves_at bytes (given_item_bytes * s.givens) s.moves)).answer.refusal
         → (last : Board) (out : List ℕ)
-        → last ≡ (replay b memory 1 (moves_at bytes (given_item_bytes * s.givens) s.moves)).answer.board
-        → out ≡ (replay b memory 1 (moves_at bytes (given_item_bytes * s.givens) s.moves)).journal
+        → (last ≡ (replay b memory 1 (moves_at bytes (given_item_bytes * s.givens) s.moves)).answer.board)
+        × (out ≡ (replay b memory 1 (moves_at bytes (given_item_bytes * s.givens) s.moves)).journal)
         → reopened_of bytes solution ≡ settled_by s.undone (asks_at bytes (length bytes - check_item_bytes * s.checks) s.checks) last out
     unfolding settled_by settled_record counts_in
-    plays_on p last out q r =
+    plays_on p last out q =
         opens
         ∙ pick_true _ _ _ (accepts _ (sym (p ∙ ap (λ (x : Played). x.answer.refusal) plays)))
         ∙ (λ j.
-        settled_by (sym counts j).undone (sym asks_here j) (sym (q ∙ ap (λ (x : Played). x.answer.board) plays) j) (sym (r ∙ ap (λ (x : Played). x.journal) plays) j))
+        settled_by (sym counts j).undone (sym asks_here j) (sym (q.0 ∙ ap (λ (x : Played). x.answer.board) plays) j) (sym (q.1 ∙ ap (λ (x : Played). x.journal) plays) j))
 
 -- ---- what is refused leaves nothing
 

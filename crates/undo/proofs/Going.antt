@@ -20,13 +20,13 @@ use Rattle.journal.specs.Slots.{move_of, digit_change, slot_at, is_sound}
 use Rattle.board.specs.declared.Answer.{Answer}
 use Rattle.board.specs.declared.Board.{Board}
 use Rattle.board.specs.declared.error.PlayError.{PlayError}
-use Rattle.board.specs.Board.{state_of, counts_of, moved, lent_tests}
+use Rattle.board.specs.Board.{state_of, counts_of, board_of, moved, lent_tests}
 use Rattle.board.specs.Errors.{play_number, play_refusal}
 use Rattle.board.specs.Open.{answer}
 use Rattle.board.proofs.Numbers.{last_if}
 use Rattle.board.proofs.Told.{Numbered, has_number, told_err, told_ok}
 use Rattle.play.proofs.Accepted.{slot_plain, slot_14}
-use Rattle.undo.specs.Code.Ways.{Way, Laws, digit_gone, digit_stood, marks_stood, before_slot, fits, call_of}
+use Rattle.undo.specs.Code.Ways.{Way, Laws, digit_gone, digit_stood, marks_gone, marks_stood, before_slot, fits, call_of}
 
 -- a number below 14 has no place
 abbrev Below : List Test → Type 0
@@ -55,16 +55,18 @@ notes_stay w s cell None = refl
 
 module _ (w : Way) (laws : Laws w) where
   -- what is asked of the parts of a state, where the slot is sound
-  module _ (s : State) (slot : Slot) where
-    pub unsound_unfit : is_sound s.given slot ≡ false → fits w s slot ≡ false
-    unfolding fits
-    unsound_unfit h = both_false_left _ _ h
-
-    pub fits_parts : is_sound s.given slot ≡ true → (digit_stood w s.digits (cell_of slot.row slot.column) (digit_change slot) && marks_stood w s.notes (move_of slot) slot.struck) ≡ fits w s slot
-    unfolding fits
-    fits_parts h = and_both _ _ ∙ laws.stood s slot h ∙ sym (both_first _ _ h)
+  pub fits_parts : (s : State) (slot : Slot) → is_sound s.given slot ≡ true → (digit_stood w s.digits (cell_of slot.row slot.column) (digit_change slot) && marks_stood w s.notes (move_of slot) slot.struck) ≡ fits w s slot
+  unfolding fits
+  fits_parts s slot h = and_both _ _ ∙ laws.stood s slot h ∙ sym (both_first _ _ h)
 
   module _ (b : Board) (journal : List ℕ) where
+    -- the slot that is asked
+    abbrev asked : Slot
+    asked = slot_at journal (w.slot (counts_of b))
+
+    abbrev cell : ℕ
+    cell = cell_of asked.row asked.column
+
     numbered : Numbered (before_slot w b (length journal))
     unfolding before_slot lent_tests
     numbered = (omega arith, (omega arith, (omega arith, (laws.numbered (counts_of b), tt))))
@@ -77,23 +79,42 @@ module _ (w : Way) (laws : Laws w) where
     pub stopped : (e : PlayError) → play_number e ≡ first (before_slot w b (length journal)) → answer (play_refusal e) b ≡ call_of w b journal
     unfolding call_of
     stopped e p =
-        let q = told_err e (before_slot w b (length journal)) ((not (fits w (state_of b) (slot_at journal (w.slot (counts_of b)))) ⇒ 14) ∷ []) p in
+        let q = told_err e (before_slot w b (length journal)) ((not (fits w (state_of b) asked) ⇒ 14) ∷ []) p in
         ap (λ r. answer r b) (slot_plain (play_number e) _ (w.slot (counts_of b)) (omega (arith, p, below)) q)
         ∙ sym (pick_false _ _ _ (ne_eqb _ 0 (λ z. omega (arith, has_number e, q, z))))
 
     module _ (p : 0 ≡ first (before_slot w b (length journal))) where
-      by_the_slot : first (before_slot w b (length journal) ++ ((not (fits w (state_of b) (slot_at journal (w.slot (counts_of b)))) ⇒ 14) ∷ [])) ≡ first ((not (fits w (state_of b) (slot_at journal (w.slot (counts_of b)))) ⇒ 14) ∷ [])
+      by_the_slot : first (before_slot w b (length journal) ++ ((not (fits w (state_of b) asked) ⇒ 14) ∷ [])) ≡ first ((not (fits w (state_of b) asked) ⇒ 14) ∷ [])
       by_the_slot = told_ok _ _ numbered p
 
       -- refused by its slot
-      pub unfit : fits w (state_of b) (slot_at journal (w.slot (counts_of b))) ≡ false → answer (refusal 14 (w.slot (counts_of b)) 0) b ≡ call_of w b journal
+      unfit : fits w (state_of b) asked ≡ false → answer (refusal 14 (w.slot (counts_of b)) 0) b ≡ call_of w b journal
       unfolding call_of
       unfit h =
           let q : 14 ≡ _ = sym (by_the_slot ∙ refused _ 14 [] (ap not h)) in
           ap (λ r. answer r b) (slot_14 _ (w.slot (counts_of b)) q) ∙ sym (pick_false _ _ _ (ne_eqb _ 0 (λ z. omega (arith, q, z))))
 
-      -- accepted
-      pub gone : fits w (state_of b) (slot_at journal (w.slot (counts_of b))) ≡ true
-          → answer accepted (moved b (w.whole (state_of b) (slot_at journal (w.slot (counts_of b)))) (w.counts (counts_of b))) ≡ call_of w b journal
-      unfolding call_of
-      gone h = sym (pick_true _ _ _ (eq-eqb _ 0 (by_the_slot ∙ last_if _ 14 (ap not h))))
+      pub unsound : is_sound b.given asked ≡ false → answer (refusal 14 (w.slot (counts_of b)) 0) b ≡ call_of w b journal
+      unfolding fits state_of
+      unsound h = unfit (both_false_left _ _ h)
+
+      -- a sound slot, and what was asked of the parts: the digit, and with that gone the marks
+      module _ (stood marks : Bool) (board : Board) (h : is_sound b.given asked ≡ true)
+          (digit : stood ≡ digit_stood w b.digits cell (digit_change asked))
+          (put : board ≡ moved b (digit_gone w (state_of b) cell (digit_change asked)) (counts_of b))
+          (mark : marks ≡ marks_stood w board.notes (move_of asked) asked.struck) where
+        both_parts : (stood && marks) ≡ fits w (state_of b) asked
+        unfolding state_of moved board_of
+        both_parts = rw (digit, mark, put, notes_stay w (state_of b) cell (digit_change asked)) (fits_parts (state_of b) asked h)
+
+        pub unfit_parts : (stood && marks) ≡ false → answer (refusal 14 (w.slot (counts_of b)) 0) b ≡ call_of w b journal
+        unfit_parts e = unfit (sym both_parts ∙ e)
+
+        -- accepted
+        pub gone : (stood && marks) ≡ true → (out : Board)
+            → out ≡ moved b (marks_gone w (state_of board) (move_of asked) asked.struck) (w.counts (counts_of b))
+            → answer accepted out ≡ call_of w b journal
+        unfolding call_of state_of moved board_of counts_of
+        gone e out is =
+            rw (is, put, laws.whole (state_of b) asked)
+            (sym (pick_true _ _ _ (eq-eqb _ 0 (by_the_slot ∙ last_if _ 14 (ap not (sym both_parts ∙ e))))))

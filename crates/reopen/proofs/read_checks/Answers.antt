@@ -8,7 +8,7 @@ use Rattle.journal.specs.Limits.{check_bytes}
 use Rattle.record.specs.Reopen.{to_play, checks_refusal}
 use Rattle.record.proofs.Errors.{reopen_numbered}
 use Rattle.record.proofs.Laying.{laying_start}
-use Rattle.reopen.proofs.Checking.{asks_left, asks_all, stored_of, stored_size, check_stops, one_more, all_tested, all_stored}
+use Rattle.reopen.proofs.Checking.{asks_left, asks_all, stored_of, stored_size, check_stops, one_more, all_read}
 use Rattle.reopen.proofs.read_checks.Goals as goal
 
 pub loop-k-init : goal.loop-k-init
@@ -46,21 +46,14 @@ pub returns : goal.returns
 returns c =
     let a = c.args in
     let turn = c.loop-k in
-    let last : a.count + 1 ≤ turn.k = omega arith in
-    record {
-      refusal = all_tested a.bytes.now a.start a.count turn.k a.board.now _ _ _ _ last c.to_play-cells.ensures turn.invariant.0 turn.invariant.1;
-      stored = all_stored a.bytes.now a.start a.count turn.k a.board.now _ _ _ _ last c.to_play-cells.ensures turn.invariant.0 turn.invariant.1;
-    }
+    let read = all_read a.bytes.now a.start a.count turn.k a.board.now _ _ _ _ (omega arith) c.to_play-cells.ensures turn.invariant.0 turn.invariant.1 in
+    record { refusal = read.0; stored = read.1 }
 
 pub returns-in_ok-check_test : goal.returns-in_ok-check_test
 returns-in_ok-check_test c =
     let a = c.args in
-    let b = a.board.now in
     let turn = c.loop-k in
     let asked = c.asked_at-asked in
-    let more = one_more a.bytes.now a.start a.count turn.k b c.to_play-cells.result _ _ asked.result (omega arith) (omega arith) asked.ensures c.in_ok-check_test.ensures turn.invariant.0 turn.invariant.1 _ (check_bytes * turn.k) refl c.store_check.ensures.1 in
-    let last : a.count + 1 ≤ turn.k + 1 = omega arith in
-    record {
-      refusal = all_tested a.bytes.now a.start a.count (turn.k + 1) b _ _ _ (check_bytes * turn.k) last c.to_play-cells.ensures more.0 more.1;
-      stored = all_stored a.bytes.now a.start a.count (turn.k + 1) b _ _ _ (check_bytes * turn.k) last c.to_play-cells.ensures more.0 more.1;
-    }
+    let more = one_more a.bytes.now a.start a.count turn.k a.board.now c.to_play-cells.result _ _ asked.result (omega arith) (omega arith) asked.ensures c.in_ok-check_test.ensures turn.invariant.0 turn.invariant.1 _ (check_bytes * turn.k) refl c.store_check.ensures.1 in
+    let read = all_read a.bytes.now a.start a.count (turn.k + 1) a.board.now _ _ _ (check_bytes * turn.k) (omega arith) c.to_play-cells.ensures more.0 more.1 in
+    record { refusal = read.0; stored = read.1 }

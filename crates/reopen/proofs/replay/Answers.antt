@@ -10,7 +10,7 @@ use Rattle.play.specs.Play.{Played}
 use Rattle.record.specs.Reopen.{replay}
 use Rattle.record.proofs.Errors.{reopen_numbered}
 use Rattle.reopen.specs.Code.Reopening.{moves_at}
-use Rattle.reopen.proofs.Replaying.{recorded_le, next_made, next_wrote, turn_stops, turn_goes_on, replay_ends}
+use Rattle.reopen.proofs.Replaying.{recorded_le, turn_stops, turn_goes_on, replay_ends}
 use Rattle.reopen.proofs.replay.Goals as goal
 
 pub loop-k-init : goal.loop-k-init
@@ -27,11 +27,9 @@ unfolding state_of
 returns-in_err-next_test-clause-refusal c =
     let a = c.args in
     let turn = c.loop-k in
-    let b = turn.played in
     let p = err_from_is_err_and c.from_residual.result c.from_residual.ensures.1 in
-    let e = c.in_err-next_test.field-0.0 in
     rw (p.1, p.2)
-    (turn_stops a.bytes.now turn.at turn.k a.count b turn.journal c.move_at-m.result c.move_at-m.ensures (omega arith) _ c.in_err-next_test.ensures (reopen_numbered e)
+    (turn_stops a.bytes.now turn.at turn.k a.count turn.played turn.journal _ c.move_at-m.ensures (omega arith) _ c.in_err-next_test.ensures (reopen_numbered _)
     ∙ ap (λ (x : Played). x.answer.refusal) turn.invariant.3)
 
 pub overflow_add-at : goal.overflow_add-at
@@ -41,14 +39,12 @@ pub loop-k-preserved : goal.loop-k-preserved
 unfolding state_of counts_of moved board_of
 loop-k-preserved c =
     let a = c.args in
-    let turn = c.loop-k in
-    let b = turn.played in
-    let made = next_made b turn.journal turn.k c.move_at-m.result _ c.make.ensures.0 in
-    let wrote = next_wrote b turn.journal turn.k c.move_at-m.result _ c.make.ensures.1 (omega (arith, turn.invariant.0, turn.invariant.1, c.requires.1)) in (
+    let turn = c.loop-k in (
       omega (arith, c.make.auto.journal, turn.invariant.0),
-      omega (arith, recorded_le (counts_of b), ap (λ (x : Board). x.standing) c.make.ensures.0, turn.invariant.1),
+      omega (arith, recorded_le (counts_of turn.played), ap (λ (x : Board). x.standing) c.make.ensures.0, turn.invariant.1),
       omega (arith, c.move_length-at.ensures.1, turn.invariant.2),
-      sym (turn_goes_on a.bytes.now turn.at turn.k a.count b turn.journal c.move_at-m.result c.move_at-m.ensures (omega arith) c.in_ok-next_test.ensures _ _ made wrote c.move_length-at.result c.move_length-at.ensures.0) ∙ turn.invariant.3,
+      turn_goes_on a.bytes.now turn.at turn.k a.count turn.played turn.journal _ c.move_at-m.ensures (omega arith) c.in_ok-next_test.ensures _ _ c.make.ensures
+          (omega (arith, turn.invariant.0, turn.invariant.1, c.requires.1)) _ c.move_length-at.ensures.0 _ turn.invariant.3,
     )
 
 pub shape_of-journal : goal.shape_of-journal
@@ -59,11 +55,8 @@ pub returns : goal.returns
 returns c =
     let a = c.args in
     let turn = c.loop-k in
-    let ended = sym (replay_ends a.bytes.now turn.at turn.k a.count turn.played turn.journal (omega arith)) ∙ turn.invariant.3 in
-    record {
-      refusal = ap (λ (x : Played). x.answer.refusal) ended;
-      played = (ap (λ (x : Played). x.answer.board) ended, ap (λ (x : Played). x.journal) ended);
-    }
+    let end = replay_ends a.bytes.now turn.at turn.k a.count _ _ _ (omega arith) turn.invariant.3 in
+    record { refusal = end.0; played = end.1 }
 
 -- the last one was made
 pub returns-in_ok-next_test : goal.returns-in_ok-next_test
@@ -71,12 +64,7 @@ unfolding state_of counts_of
 returns-in_ok-next_test c =
     let a = c.args in
     let turn = c.loop-k in
-    let b = turn.played in
-    let made = next_made b turn.journal turn.k c.move_at-m.result _ c.make.ensures.0 in
-    let wrote = next_wrote b turn.journal turn.k c.move_at-m.result _ c.make.ensures.1 (omega (arith, turn.invariant.0, turn.invariant.1, c.requires.1)) in
-    let on = turn_goes_on a.bytes.now turn.at turn.k a.count b turn.journal c.move_at-m.result c.move_at-m.ensures (omega arith) c.in_ok-next_test.ensures _ _ made wrote c.move_length-at.result c.move_length-at.ensures.0 in
-    let ended = sym (replay_ends a.bytes.now (turn.at + c.move_length-at.result) (turn.k + 1) a.count _ _ (omega arith)) ∙ sym on ∙ turn.invariant.3 in
-    record {
-      refusal = ap (λ (x : Played). x.answer.refusal) ended;
-      played = (ap (λ (x : Played). x.answer.board) ended, ap (λ (x : Played). x.journal) ended);
-    }
+    let on = turn_goes_on a.bytes.now turn.at turn.k a.count turn.played turn.journal _ c.move_at-m.ensures (omega arith) c.in_ok-next_test.ensures _ _ c.make.ensures
+    (omega (arith, turn.invariant.0, turn.invariant.1, c.requires.1)) _ c.move_length-at.ensures.0 _ turn.invariant.3 in
+    let end = replay_ends a.bytes.now (turn.at + c.move_length-at.result) (turn.k + 1) a.count _ _ _ (omega arith) on in
+    record { refusal = end.0; played = end.1 }

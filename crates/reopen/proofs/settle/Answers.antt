@@ -10,7 +10,6 @@ use Rattle.std.proofs.lemmas.Result.{err_from_is_err_and}
 use Rattle.journal.specs.Bytes.{over}
 use Rattle.journal.specs.Limits.{check_item_bytes}
 use Rattle.board.specs.Board.{state_of, counts_of, board_of}
-use Rattle.record.specs.Errors.{reopen_refusal}
 use Rattle.record.proofs.Errors.{reopen_numbered}
 use Rattle.reopen.specs.Code.Reopening.{asks_at}
 use Rattle.reopen.proofs.Checking.{asks_length, stored_of}
@@ -20,7 +19,7 @@ use Rattle.reopen.proofs.settle.Goals as goal
 pub returns-then-is_undone_solved : goal.returns-then-is_undone_solved
 returns-then-is_undone_solved c =
     let a = c.args in
-    reopens_refused _ _ _ _ _ refl (settled_30 a.s.undone (asks_at a.bytes.now (length a.bytes.now - check_item_bytes * a.s.checks) a.s.checks) a.board a.journal.now (sym c.is_undone_solved.ensures ∙ c.if-is_undone_solved.true))
+    reopens_refused _ _ _ _ (settled_30 a.s.undone (asks_at a.bytes.now (length a.bytes.now - check_item_bytes * a.s.checks) a.s.checks) a.board a.journal.now (sym c.is_undone_solved.ensures ∙ c.if-is_undone_solved.true))
 
 pub read_checks-requires : goal.read_checks-requires
 read_checks-requires c =
@@ -32,8 +31,7 @@ returns-in_err-read_checks c =
     let a = c.args in
     let back = c.take_back_all in
     let p = err_from_is_err_and c.from_residual.result c.from_residual.ensures.1 in
-    let e = c.in_err-read_checks.field-0.0 in
-    reopens_refused _ _ _ _ e (rw p.2 at p.1) (settled_refused a.s.undone (asks_at a.bytes.now (length a.bytes.now - check_item_bytes * a.s.checks) a.s.checks) a.board a.journal.now (sym c.is_undone_solved.ensures ∙ c.if-is_undone_solved.false) back.new.board back.ensures (reopen_refusal e) c.in_err-read_checks.ensures.refusal (reopen_numbered e))
+    rw (p.1, p.2) (reopens_refused _ _ _ _ (settled_refused a.s.undone (asks_at a.bytes.now (length a.bytes.now - check_item_bytes * a.s.checks) a.s.checks) a.board a.journal.now (sym c.is_undone_solved.ensures ∙ c.if-is_undone_solved.false) back.new.board back.ensures _ c.in_err-read_checks.ensures.refusal (reopen_numbered _)))
 
 pub returns : goal.returns
 unfolding board_of state_of counts_of

@@ -6,38 +6,19 @@ use Rattle.record.proofs.Laying.{givens_room_lem, moves_room, count_room, checks
 use Rattle.record.proofs.write.Kept.lay.Goals as goal
 
 pub lay_givens-moves-requires : goal.lay_givens-moves-requires
-lay_givens-moves-requires c =
-    let s = c.args.self.now in
-    givens_room_lem s.board.now s.journal.now s.checks.now c.args.output.now c.requires
+lay_givens-moves-requires c = givens_room_lem _ _ _ _ c.requires
 
 pub lay_stored-count-requires : goal.lay_stored-count-requires
-lay_stored-count-requires c =
-    let s = c.args.self.now in
-    let givens = c.lay_givens-moves in
-    moves_room s.board.now s.journal.now s.checks.now c.args.output.now c.requires _ givens.result givens.ensures.0 givens.ensures.1
+lay_stored-count-requires c = moves_room _ _ _ _ c.requires _ _ c.lay_givens-moves.ensures
 
 pub lay_item-asked-requires : goal.lay_item-asked-requires
 unfolding encode
-lay_item-asked-requires c =
-    let s = c.args.self.now in
-    let givens = c.lay_givens-moves in
-    let moves = c.lay_stored-count in
-    count_room s.board.now s.journal.now s.checks.now c.args.output.now c.requires _ givens.result givens.ensures.0 givens.ensures.1 _ moves.result moves.ensures.0 moves.ensures.1
+lay_item-asked-requires c = count_room _ _ _ _ c.requires _ _ c.lay_givens-moves.ensures _ _ c.lay_stored-count.ensures
 
 pub lay_stored-requires : goal.lay_stored-requires
 unfolding encode low second
-lay_stored-requires c =
-    let s = c.args.self.now in
-    let givens = c.lay_givens-moves in
-    let moves = c.lay_stored-count in
-    let undone = c.lay_item-asked.ensures in
-    checks_room s.board.now s.journal.now s.checks.now c.args.output.now c.requires _ givens.result givens.ensures.0 givens.ensures.1 _ moves.result moves.ensures.0 moves.ensures.1 _ c.lay_item-asked.result undone.0 undone.1
+lay_stored-requires c = checks_room _ _ _ _ c.requires _ _ c.lay_givens-moves.ensures _ _ c.lay_stored-count.ensures _ _ c.lay_item-asked.ensures
 
 pub returns : goal.returns
 unfolding encode low second
-returns c =
-    let s = c.args.self.now in
-    let givens = c.lay_givens-moves in
-    let moves = c.lay_stored-count in
-    let undone = c.lay_item-asked.ensures in
-    record_laid s.board.now s.journal.now s.checks.now c.args.output.now c.requires _ givens.result givens.ensures.0 givens.ensures.1 _ moves.result moves.ensures.0 moves.ensures.1 _ c.lay_item-asked.result undone.0 undone.1 _ c.lay_stored.ensures.1
+returns c = record_laid _ _ _ _ c.requires _ _ c.lay_givens-moves.ensures _ _ c.lay_stored-count.ensures _ _ c.lay_item-asked.ensures _ c.lay_stored.ensures.1
