@@ -1,7 +1,7 @@
 -- `reopen::replay` meets its contract: what is left to perform from the board and the journal as they are decides.
 -- Assumes nothing.
 use Prim.Native.Nat.{ℕ, ◌+◌, ◌-◌}
-use mathlib.Core.Path.{sym, ap, ◌∙◌}
+use mathlib.Core.Path.{ap, ◌∙◌}
 use native.Mathlib.Omega.{arith}
 use Rattle.std.proofs.lemmas.Result.{err_from_is_err_and}
 use Rattle.board.specs.declared.Board.{Board}
@@ -46,9 +46,6 @@ loop-k-preserved c =
       turn_goes_on a.bytes.now turn.at turn.k a.count turn.played turn.journal _ c.move_at-m.ensures (omega arith) c.in_ok-next_test.ensures _ _ c.make.ensures
           (omega (arith, turn.invariant.0, turn.invariant.1, c.requires.1)) _ c.move_length-at.ensures.0 _ turn.invariant.3,
     )
-
-pub shape_of-journal : goal.shape_of-journal
-shape_of-journal c = omega (arith, c.loop-k.invariant.0, c.requires.3)
 
 -- no move is left
 pub returns : goal.returns
