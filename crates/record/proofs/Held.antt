@@ -3,7 +3,7 @@
 -- Assumes nothing.
 use Prim.Native.Nat.{ℕ, suc, ◌+◌, ◌-◌, ◌*◌, ◌^◌, ◌≤◌, ◌<◌}
 use mathlib.Core.Path.{◌≡◌, refl, sym, ap, subst, ◌∙◌}
-use mathlib.Core.Bool.{true, false, not}
+use mathlib.Core.Bool.{Bool, true, false, not}
 use mathlib.Core.List.{List, [], ◌∷◌, ◌++◌, map}
 use native.Mathlib.Nat.{zero-add}
 use native.Mathlib.Omega.{arith}
@@ -14,13 +14,13 @@ use Rattle.sudoku.specs.Tests.{bit, listed}
 use Rattle.sudoku.specs.Grid.{in_range, on_grid, cell_of}
 use Rattle.sudoku.proofs.Walks.{not_is_false, both_true, bit_le}
 use Rattle.sudoku.proofs.Each.{Each, each_at}
-use Rattle.puzzle.specs.Refusals.{refusal, accepted, first_refused}
+use Rattle.puzzle.specs.Refusals.{refusal, accepted, refused_if, first_refused}
 use Rattle.puzzle.proofs.Accepted.{accepts, if_not, first_of}
 use Rattle.journal.specs.declared.Slot.{Slot}
 use Rattle.journal.specs.Limits.{max_moves, slot_bytes, check_bytes}
 use Rattle.journal.specs.State.{State}
 use Rattle.journal.specs.Slots.{slot_at, move_of, is_free, is_sound}
-use Rattle.journal.specs.StoredChecks.{Stored, stored_all, stored_at, verdict_byte, is_sound_check, asked_at, sound_stored}
+use Rattle.journal.specs.StoredChecks.{Stored, stored_all, stored_at, verdict_byte, is_sound_check, sound_stored}
 use Rattle.journal.proofs.Memory.{slots_bytes, slot_listed, stored_listed, verdict_listed}
 use Rattle.play.specs.Play.{unsound_slot}
 use Rattle.journal.specs.declared.Asked.{Asked}
@@ -43,9 +43,21 @@ listed_map g f none (x ∷ l) i h =
 whole : (memory front : List ℕ) (n : ℕ) → take n memory ≡ front → memory ≡ front ++ drop n memory
 whole memory front n e = sym (take-append-drop n memory) ∙ ap (λ (l : List ℕ). l ++ drop n memory) e
 
--- numbers from 1 on are those one above another
-from_one : (P : ℕ → Type 0) (k : ℕ) → 1 ≤ k → P (k - 1 + 1) → P k
-from_one P k l p = subst P (omega arith) p
+-- memory that begins with the bytes of n entries; what is read at an entry's number is said of the entry
+module _ {A : Type 0} (size : ℕ) (bytes : List A → List ℕ) (none : A) (memory : List ℕ) (l : List A) (n : ℕ) (many : length l ≡ n) (begins : take (size * n) memory ≡ bytes l) where
+  held : {R : Type 0} (read : List ℕ → ℕ → R) (is : A → R) → ((rest : List ℕ) (i : ℕ) → i < length l → read (bytes l ++ rest) (i + 1) ≡ is (get_or l i none))
+      → (i : ℕ) → i < n → read memory (i + 1) ≡ is (get_or l i none)
+  held read is law i u = ap (λ (m : List ℕ). read m (i + 1)) (whole memory (bytes l) (size * n) begins) ∙ law (drop (size * n) memory) i (omega arith)
+
+  all_held : {B : Type 0} (g : A → B) (read : ℕ → A) → ((i : ℕ) → i < n → read (i + 1) ≡ get_or l i none) → listed (λ k. g (read k)) n 1 ≡ map g l
+  all_held g read is =
+      ap (λ (k : ℕ). listed (λ i. g (read i)) k 1) (sym many) ∙ listed_map g read none l 1 (λ k u. is k (omega arith))
+
+-- entries that all pass their test, numbered from 1 on
+none_unsound : (test : ℕ → Bool) (inner n : ℕ) → ((i : ℕ) → i < n → test (i + 1) ≡ true) → first_refused (λ k. refused_if (not (test k)) (refusal 14 k inner)) n 1 ≡ accepted
+none_unsound test inner n h =
+    first_of _ n 1
+    (λ k l u. accepts _ (if_not _ (refusal 14 k inner) (not_is_false _ (subst (λ (i : ℕ). test i ≡ true) (omega arith) (h (k - 1) (omega arith))))))
 
 -- ---- slots
 
@@ -61,28 +73,21 @@ SlotSound s slot = is_sound s.given slot ≡ true
 -- a journal that begins with the bytes of n slots
 module _ (journal : List ℕ) (slots : List Slot) (n : ℕ) (many : length slots ≡ n) (fit : Each SlotFits slots) (begins : take (slot_bytes * n) journal ≡ slots_bytes slots) where
   pub slot_held : (i : ℕ) → i < n → slot_at journal (i + 1) ≡ get_or slots i no_slot
-  slot_held i u =
-      ap (λ (l : List ℕ). slot_at l (i + 1)) (whole journal (slots_bytes slots) (slot_bytes * n) begins)
-      ∙ slot_listed slots (drop (slot_bytes * n) journal) i no_slot (omega arith) (each_at SlotFits slots fit i no_slot (omega arith))
+  slot_held =
+      held slot_bytes slots_bytes no_slot journal slots n many begins slot_at (λ slot. slot)
+      (λ rest i h. slot_listed slots rest i no_slot h (each_at SlotFits slots fit i no_slot h))
 
   -- writing reads their moves
   pub moves_held : moves_of journal n ≡ map move_of slots
   unfolding moves_of
-  moves_held =
-      ap (λ (k : ℕ). listed (λ i. move_of (slot_at journal i)) k 1) (sym many)
-      ∙ listed_map move_of (slot_at journal) no_slot slots 1 (λ k u. slot_held k (omega arith))
+  moves_held = all_held slot_bytes slots_bytes no_slot journal slots n many begins move_of (slot_at journal) slot_held
 
   -- and finds none unsound where each is sound
   pub slots_sound : (s : State) → Each (SlotSound s) slots → first_refused (unsound_slot s.given journal) n 1 ≡ accepted
   unfolding unsound_slot
   slots_sound s sound =
-      first_of (unsound_slot s.given journal) n 1
-      (λ k l u. accepts (unsound_slot s.given journal k) (if_not _ (refusal 14 k 0) (not_is_false _ (sound_at k l u))))
-    where
-      sound_at : (k : ℕ) → 1 ≤ k → k < 1 + n → is_sound s.given (slot_at journal k) ≡ true
-      sound_at k l u =
-          from_one (λ (i : ℕ). is_sound s.given (slot_at journal i) ≡ true) k l
-          (ap (is_sound s.given) (slot_held (k - 1) (omega arith)) ∙ each_at (SlotSound s) slots sound (k - 1) no_slot (omega arith))
+      none_unsound (λ k. is_sound s.given (slot_at journal k)) 0 n
+      (λ i u. ap (is_sound s.given) (slot_held i u) ∙ each_at (SlotSound s) slots sound i no_slot (omega arith))
 
 -- ---- stored checks
 
@@ -118,33 +123,20 @@ check_sound s checks n c e v w =
 -- a check memory that begins with the bytes of n stored checks
 module _ (checks : List ℕ) (stored : List Stored) (n : ℕ) (many : length stored ≡ n) (fit : Each StoredFits stored) (begins : take (check_bytes * n) checks ≡ stored_all stored) where
   pub stored_held : (i : ℕ) → i < n → stored_at checks (i + 1) ≡ get_or stored i no_check
-  stored_held i u =
-      ap (λ (l : List ℕ). stored_at l (i + 1)) (whole checks (stored_all stored) (check_bytes * n) begins)
-      ∙ stored_listed stored (drop (check_bytes * n) checks) i no_check (omega arith) (each_at StoredFits stored fit i no_check (omega arith))
-
-  verdict_held : (i : ℕ) → i < n → verdict_byte checks (i + 1) ≡ bit (get_or stored i no_check).right
-  verdict_held i u =
-      ap (λ (l : List ℕ). verdict_byte l (i + 1)) (whole checks (stored_all stored) (check_bytes * n) begins)
-      ∙ verdict_listed stored (drop (check_bytes * n) checks) i no_check (omega arith)
+  stored_held =
+      held check_bytes stored_all no_check checks stored n many begins stored_at (λ c. c)
+      (λ rest i h. stored_listed stored rest i no_check h (each_at StoredFits stored fit i no_check h))
 
   -- writing reads what was asked
   pub asked_held : asked_of checks n ≡ map asked_in stored
   unfolding asked_of stored_at
-  asked_held =
-      ap (λ (k : ℕ). listed (asked_at checks) k 1) (sym many)
-      ∙ listed_map asked_in (stored_at checks) no_check stored 1 (λ k u. stored_held k (omega arith))
+  asked_held = all_held check_bytes stored_all no_check checks stored n many begins asked_in (stored_at checks) stored_held
 
   -- and finds none unsound where each is sound
   pub checks_sound : (s : State) → Each (CheckSound s) stored → first_refused (unsound_check s.given checks) n 1 ≡ accepted
   unfolding unsound_check
   checks_sound s sound =
-      first_of (unsound_check s.given checks) n 1
-      (λ k l u. accepts (unsound_check s.given checks k) (if_not _ (refusal 14 k 1) (not_is_false _ (sound_at k l u))))
-    where
-      sound_here : (i : ℕ) → i < n → is_sound_check s.given checks (i + 1) ≡ true
-      sound_here i u =
-          check_sound s checks (i + 1) (get_or stored i no_check) (stored_held i u) (verdict_held i u)
-          (each_at (CheckSound s) stored sound i no_check (omega arith))
-
-      sound_at : (k : ℕ) → 1 ≤ k → k < 1 + n → is_sound_check s.given checks k ≡ true
-      sound_at k l u = from_one (λ (i : ℕ). is_sound_check s.given checks i ≡ true) k l (sound_here (k - 1) (omega arith))
+      none_unsound (is_sound_check s.given checks) 1 n
+      (λ i u. check_sound s checks (i + 1) (get_or stored i no_check) (stored_held i u)
+      (held check_bytes stored_all no_check checks stored n many begins verdict_byte (λ c. bit c.right) (λ rest k h. verdict_listed stored rest k no_check h) i u)
+      (each_at (CheckSound s) stored sound i no_check (omega arith)))

@@ -18,9 +18,6 @@ lay_given-at-requires c = (omega arith, part_room _ _ _ (digits_walk c.args.digi
 pub loop-cell-preserved : goal.loop-cell-preserved
 loop-cell-preserved c = part_laid _ _ _ (digits_walk c.args.digits.now) _ _ _ _ _ _ c.loop-cell.invariant _ _ (omega arith) c.lay_given-at.ensures
 
-pub shape_of-output : goal.shape_of-output
-shape_of-output c = c.loop-cell.invariant.same
-
 pub returns : goal.returns
 returns c =
     let digits = c.args.digits.now in

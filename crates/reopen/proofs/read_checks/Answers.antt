@@ -37,10 +37,6 @@ loop-k-preserved c =
     let asked = c.asked_at-asked in
     one_more a.bytes.now a.start a.count turn.k a.board.now c.to_play-cells.result _ _ asked.result (omega arith) (omega arith) asked.ensures c.in_ok-check_test.ensures turn.invariant.0 turn.invariant.1 _ _ (omega arith) c.store_check.ensures.1
 
-pub shape_of-checks : goal.shape_of-checks
-shape_of-checks c =
-    c.loop-k.invariant.1.same
-
 -- no check, and after the last one
 pub returns : goal.returns
 returns c =

@@ -47,9 +47,6 @@ loop-k-preserved c =
           (omega (arith, turn.invariant.0, turn.invariant.1, c.requires.1)) _ c.move_length-at.ensures.0 _ turn.invariant.3,
     )
 
-pub shape_of-journal : goal.shape_of-journal
-shape_of-journal c = omega (arith, c.loop-k.invariant.0, c.requires.3)
-
 -- no move is left
 pub returns : goal.returns
 returns c =

@@ -15,9 +15,6 @@ lay_given-at-requires c = (omega arith, part_room _ _ _ (givens_walk c.args.boar
 pub loop-cell-preserved : goal.loop-cell-preserved
 loop-cell-preserved c = part_laid _ _ _ (givens_walk c.args.board.now) _ _ _ _ _ _ c.loop-cell.invariant _ _ (omega arith) c.lay_given-at.ensures
 
-pub shape_of-output : goal.shape_of-output
-shape_of-output c = c.loop-cell.invariant.same
-
 pub returns : goal.returns
 returns c =
     let b = c.args.board.now in

@@ -22,9 +22,6 @@ loop-n-preserved g c =
     let a = c.args in
     part_laid _ _ _ (items_walk (g.S.AsItem.item_in a.memory.now) (a.count + 1)) _ _ _ _ _ _ c.loop-n.invariant _ _ (omega arith) (rw c.item_at.ensures at c.lay_item-at.ensures)
 
-pub shape_of-output : goal.shape_of-output
-shape_of-output g c = c.loop-n.invariant.same
-
 -- no item, and after the last one
 pub returns : goal.returns
 returns g c =
