@@ -4,6 +4,7 @@ ghost use Rattle.sudoku.specs.Tests.{pick};
 ghost use Rattle.calls.specs.Encoded.{run_one};
 ghost use Rattle.texts.specs.declared.Verb.TheVariants.{Open};
 ghost use Rattle.texts.specs.Commands.{request};
+ghost use Rattle.files.specs.Load.{name_of};
 ghost use Rattle.commands.specs.Perform.{narrowed, numbers_of, wanted_by, move_named, move_call, undo_call, check_call, played, Opens, puzzle_leaves, Performs};
 
 use crate::{Game, Numbers};
@@ -14,7 +15,7 @@ use journal::{Asked, Move};
 use lines::{LINE_BYTES, write_line};
 use play::checks::check;
 use play::moves::play;
-use play::shown::{Latest, Next, slot_shown};
+use play::shown::{Latest, Next, Turn, slot_shown};
 use print::deeds::{made, verdict};
 use print::drawing::{keys, position, whole};
 use print::words::explain;
@@ -169,7 +170,8 @@ fn show_line(board: Board) {
     }
 }
 
-// A command's method takes the command whole: its contract says what that command leaves of the game.
+// The methods that `perform` calls take the command whole. Of those that may change the game, make, step, check, open
+// and open_line, the contract says what that command leaves of it.
 impl Game {
     // The board after a call: drawn, or with the refusal's words.
     fn settle(&mut self, answer: Answer)
@@ -242,22 +244,10 @@ impl Game {
         verdict(asked, answer.right);
     }
 
-    // The latest standing move.
-    fn show_latest(&self) {
-        match slot_shown::<Latest>(self.board, &self.memory.journal) {
-            Ok(slot) => made(self.board.standing, slot_at(slot, 1), false),
-            Err(e) => explain(e.into()),
-        }
-    }
-
-    // The next move to redo. It is numbered from those that stand, and a board has far fewer than a number holds.
-    fn show_next(&self) {
-        match slot_shown::<Next>(self.board, &self.memory.journal) {
-            Ok(slot) => made(
-                self.board.standing.saturating_add(1),
-                slot_at(slot, 1),
-                true,
-            ),
+    // The latest standing move or the next to redo, which is move n.
+    fn show_slot<T: Turn>(&self, n: usize, undone: bool) {
+        match slot_shown::<T>(self.board, &self.memory.journal) {
+            Ok(slot) => made(n, slot_at(slot, 1), undone),
             Err(e) => explain(e.into()),
         }
     }
@@ -311,9 +301,9 @@ impl Game {
         }
     }
 
-    // Opens a file, with the solution in another; with the solution that is played where the name of that is empty.
-    fn open_files<R: Files>(&mut self, rt: &R, path: &[u8], solution: &[u8])
-        ensures left { Opens (record { verb = Open; words = 2; first = path.now; second = solution.now; third = [] }) (played self.old) (played self.new) }
+    // Opens a file, with the solution in another where one is named; else with the solution that is played.
+    fn open_files<R: Files>(&mut self, rt: &R, path: &[u8], solution: Option<&[u8]>)
+        ensures left { Opens (record { verb = Open; words = 2; first = path.now; second = name_of solution.entry; third = [] }) (played self.old) (played self.new) }
         ensures coloured { self.new.coloured ≡ self.old.coloured }
     {
         let right = &self.board.solution;
@@ -327,8 +317,8 @@ impl Game {
         ensures coloured { self.new.coloured ≡ self.old.coloured }
     {
         match command.words {
-            Words::One(path) => self.open_files(rt, path, b""),
-            Words::Two(path, solution) => self.open_files(rt, path, solution),
+            Words::One(path) => self.open_files(rt, path, None),
+            Words::Two(path, solution) => self.open_files(rt, path, Some(solution)),
             _ => want(Verb::Open),
         }
     }
@@ -347,11 +337,13 @@ impl Game {
         self.take_up(loaded);
     }
 
-    // The commands that have no words after them, show something and change nothing.
+    // The commands that have no words after them, show something and change nothing. The next move is numbered from those
+    // that stand, of which a board has far fewer than a number holds.
     fn show_alone(&self, verb: Verb) {
+        let standing = self.board.standing;
         match verb {
-            Verb::Latest => self.show_latest(),
-            Verb::Next => self.show_next(),
+            Verb::Latest => self.show_slot::<Latest>(standing, false),
+            Verb::Next => self.show_slot::<Next>(standing.saturating_add(1), true),
             Verb::Left => keys(&self.board.digits),
             Verb::Board => whole(self.board, self.coloured),
             Verb::Line => show_line(self.board),

@@ -1,12 +1,14 @@
 -- What loading leaves, by what was found on the way.
 -- Assumes nothing.
 use Prim.Native.Nat.{ℕ}
-use mathlib.Core.Path.{◌≡◌, sym, ap, ◌∙◌}
+use mathlib.Core.Path.{◌≡◌, sym, ap, subst, ◌∙◌}
+use native.Mathlib.Omega.{arith}
 use mathlib.Core.Bool.{true, false}
 use mathlib.Core.List.{List}
 use borrow.Author.Tests.{eq-eqb, ne_eqb}
 use lib.ListN.{length}
-use Rattle.std.specs.Prelude.{Option, Some, None}
+use Rattle.std.specs.Borrow.{Bor}
+use Rattle.std.specs.Prelude.{◌<◌, Option, Some, None, IfSome}
 use Rattle.sudoku.proofs.Walks.{pick_true, pick_false}
 use Rattle.puzzle.specs.declared.Refusal.{Refusal}
 use Rattle.puzzle.specs.Refusals.{accepted, is_accepted}
@@ -18,7 +20,7 @@ use Rattle.lines.specs.Lines.{line_refusal, values_of, digits_bytes}
 use Rattle.lines.proofs.Answered.{line_numbered}
 use Rattle.lines.proofs.Reading.{digits_of_line}
 use Rattle.files.specs.Disk.{Content, cells_in}
-use Rattle.files.specs.Load.{left, nothing_loaded, stays, takes_place, load_file, load_solved, load_of, open_line, load_line}
+use Rattle.files.specs.Load.{left, nothing_loaded, stays, takes_place, load_file, load_solved, load_of, name_of, open_line, load_line}
 
 -- what was opened in memory apart
 
@@ -79,3 +81,17 @@ module _ (named atHand journal checks : List ℕ) (file answers : Content) where
   pub by_file : (length named ≡ 0 → ⊥) → (right : List ℕ) → cells_in answers ≡ Some right → load_file file right journal checks ≡ load_of named file answers atHand journal checks
   unfolding load_solved
   by_file n right e = by_cells n (Some right) e
+
+-- the name of a solution's file, by what was found of it
+
+module _ (given found : Option (Bor (List ℕ))) (same : name_of found ≡ name_of given) where
+  pub none_named : found ≡ None → length (name_of given) ≡ 0
+  unfolding name_of
+  none_named e = ap (λ (l : List ℕ). length l) (sym same) ∙ ap (λ (n : Option (Bor (List ℕ))). length (name_of n)) e
+
+  pub some_named : IfSome found (λ name. 0 < length name.now) → (name : Bor (List ℕ)) → found ≡ Some name → length (name_of given) ≡ 0 → ⊥
+  unfolding name_of
+  some_named there name e none =
+      let long : 0 < length name.now = subst (λ (n : Option (Bor (List ℕ))). IfSome n (λ m. 0 < length m.now)) e there in
+      let is : length (name_of given) ≡ length name.now = ap (λ (l : List ℕ). length l) (sym same ∙ ap name_of e) in
+      omega arith

@@ -2,7 +2,8 @@
 -- what a mailed line opens with the line of its solution. And what loading leaves: the board that was opened with its
 -- memory, or the lent memory as it was.
 -- Assumes nothing.
-use Rattle.std.specs.Prelude.{ℕ, ◌≡◌, Bool, List, Option, Some, None, leb, eqb, length, get_or}
+use Rattle.std.specs.Borrow.{Bor}
+use Rattle.std.specs.Prelude.{ℕ, ◌≡◌, Bool, List, [], Option, Some, None, leb, eqb, length, get_or}
 use Rattle.sudoku.specs.Tests.{pick, both, either}
 use Rattle.puzzle.specs.Refusals.{is_accepted}
 use Rattle.puzzle.specs.Givens.{triple_bytes}
@@ -72,6 +73,11 @@ load_solved file (Some solution) journal checks = load_file file solution journa
 unfoldable pub load_of : List ℕ → Content → Content → List ℕ → List ℕ → List ℕ → Left
 load_of named file answers atHand journal checks =
     pick (eqb (length named) 0) (load_file file atHand journal checks) (load_solved file (cells_in answers) journal checks)
+
+-- the name of a solution's file; an empty one counts as none
+unfoldable pub name_of : Option (Bor (List ℕ)) → List ℕ
+name_of None = []
+name_of (Some name) = name.now
 
 -- what is left is what some file opens with a solution
 pub record FileLoaded (solution journal checks : List ℕ) (after : Left) : Type 0 where

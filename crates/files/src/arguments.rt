@@ -15,7 +15,8 @@ pub fn word<'a, R: Env>(rt: &R, i: usize, memory: &'a mut [u8; PATH_MAX]) -> Opt
     }
 }
 
-// How many words there are, the program's name among them.
+// How many words there are, the program's name among them. Nothing tells their count: they end at the first number that
+// has none, so each number is tried.
 pub fn count<R: Env>(rt: &R) -> usize {
     let mut none = [0u8; 1];
     for i in 0..usize::MAX {

@@ -142,9 +142,9 @@ pub fn read_cells<R: Files>(rt: &R, path: &[u8]) -> Option<[u8; 81]>
     whole_cells(path, text)
 }
 
-// Whether the name is free, or is that of a plain file that may be written. A device answers no to a sync, and is not
-// to be replaced.
-fn is_replaceable<R: Files>(rt: &R, path: &[u8]) -> io::Result<()> {
+// Tries whether the name is free, or is that of a plain file that may be written; an error says why not. A device
+// answers no to a sync, and is not to be replaced.
+fn try_replaceable<R: Files>(rt: &R, path: &[u8]) -> io::Result<()> {
     let mut how = OpenOptions::new();
     how.read(true).write(true);
     match opened(rt, &how, path) {
@@ -157,7 +157,7 @@ fn is_replaceable<R: Files>(rt: &R, path: &[u8]) -> io::Result<()> {
 }
 
 // Writes all bytes, and waits until they have reached the disk.
-fn is_written<F: Write + OpenFile>(file: &mut F, bytes: &[u8]) -> io::Result<()> {
+fn write_through<F: Write + OpenFile>(file: &mut F, bytes: &[u8]) -> io::Result<()> {
     match file.set_permissions(Permissions::from_mode(0o644)) {
         // as other files are: a record is there to be read; where the disk keeps no modes, that is no failure
         Ok(()) | Err(_) => {}
@@ -198,7 +198,7 @@ fn replace<R: Files>(
     bytes: &[u8],
 ) -> io::Result<()> {
     let mut file = file;
-    is_written(&mut file, bytes)?;
+    write_through(&mut file, bytes)?;
     drop(file);
     fs::rename(rt, name, path)
 }
@@ -217,7 +217,8 @@ fn saved<R: Files>(rt: &R, path: &[u8], bytes: &[u8]) -> io::Result<()> {
     }
 }
 
-// What became of a save, in words where it failed.
+// What became of a save, in words where it failed. A bool and no error, here and in `save`: what went wrong is said by
+// then, and is not to be said again.
 fn told(path: &[u8], outcome: io::Result<()>) -> bool {
     match outcome {
         Ok(()) => true,
@@ -233,7 +234,7 @@ fn told(path: &[u8], outcome: io::Result<()>) -> bool {
 pub fn save<R: Files>(rt: &R, path: &[u8], bytes: &[u8]) -> bool
     ensures { name_bytes < length path.now → result ≡ false }
 {
-    if !told(path, is_replaceable(rt, path)) {
+    if !told(path, try_replaceable(rt, path)) {
         return false;
     }
     if path.len() > NAME_BYTES {

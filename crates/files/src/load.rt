@@ -1,9 +1,9 @@
 // A puzzle and its solution, or a record, from files; or a mailed line with the line of its solution. The board that is
 // being played stays until another one is open.
-ghost use Rattle.std.specs.Prelude.{◌≡◌};
+ghost use Rattle.std.specs.Prelude.{◌≡◌, ◌<◌, IfSome, length};
 ghost use Rattle.board.specs.Open.{open_of, Gives};
 ghost use Rattle.lines.specs.Lines.{digits_bytes};
-ghost use Rattle.files.specs.Load.{is_record, open_bytes, is_openable, left, takes_place, load_bytes, FileLoaded, FilesLoaded, open_line, load_line};
+ghost use Rattle.files.specs.Load.{is_record, open_bytes, is_openable, left, takes_place, load_bytes, name_of, FileLoaded, FilesLoaded, open_line, load_line};
 
 use crate::Memory;
 use crate::disk::{FILE_BYTES, read, read_cells, whole_cells};
@@ -31,6 +31,15 @@ fn is_openable(path: &[u8], bytes: &[u8]) -> bool
     ensures { result ≡ is_openable bytes.now }
 {
     is_record(bytes) || whole_cells(path, bytes).is_some()
+}
+
+// The name of a solution's file where one is named; an empty name is none, since no file has it.
+#[tactic(auto, using(std::proofs::lemmas::List::nil_from_length), unfolding(crate::specs::Load::name_of))]
+fn named(solution: Option<&[u8]>) -> Option<&[u8]>
+    ensures same { name_of result ≡ name_of solution.entry }
+    ensures named { IfSome result (λ name. 0 < length name.now) }
+{
+    solution.filter(|name| !name.is_empty())
 }
 
 impl Memory {
@@ -94,16 +103,18 @@ impl Memory {
         &mut self,
         rt: &R,
         path: &[u8],
-        solution: &[u8],
+        solution: Option<&[u8]>,
         at_hand: &[u8; 81],
     ) -> Option<Board>
-        ensures { FilesLoaded solution.now at_hand.now self.old.journal self.old.checks (left result self.new.journal self.new.checks) }
+        ensures { FilesLoaded (name_of solution.entry) at_hand.now self.old.journal self.old.checks (left result self.new.journal self.new.checks) }
     {
-        if solution.is_empty() {
-            return self.load_with(rt, path, at_hand);
+        match named(solution) {
+            None => self.load_with(rt, path, at_hand),
+            Some(solution) => {
+                let right = read_cells(rt, solution)?;
+                self.load_with(rt, path, &right)
+            }
         }
-        let right = read_cells(rt, solution)?;
-        self.load_with(rt, path, &right)
     }
 
     // Opens a mailed line with a solution.

@@ -16,7 +16,8 @@ fn escape(colour: Colour) {
     });
 }
 
-// A drawn board in its colours: a run of signs in each. A blank shows no colour, so it ends no run.
+// A drawn board in its colours: a run of signs in each. A blank shows no colour, so it ends no run. By index, since a
+// run has to be one part of the signs, to be written at once.
 fn paint(signs: &[u8; SIZE], colours: &[Colour; SIZE]) {
     let mut start = 0;
     for n in 1..SIZE {

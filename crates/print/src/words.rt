@@ -195,8 +195,8 @@ impl Display for Found {
 }
 
 // What came of a line that is not read: where it is none how many characters, lest one that was cut short or has grown
-// be taken for a fault of the reader, and else which of them is of another sort. Only a line that is written, and not
-// read, is refused otherwise.
+// be taken for a fault of the reader, and else which of them is of another sort. The error comes from `line_digits`,
+// which has these two alone.
 #[derive(Clone, Copy)]
 struct WhatCame<'a> {
     error: LineError,

@@ -24,7 +24,8 @@ pub enum Colour {
     Marks,
 }
 
-// The cells that are drawn: their digits, and which of them are givens.
+// The cells that are drawn: their digits, and which of them are givens. The notes are the picture's alone: the colours
+// are the same whatever is pencilled.
 #[derive(Clone, Copy)]
 pub struct Cells<'a> {
     pub digits: &'a [u8; 81],

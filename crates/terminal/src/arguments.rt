@@ -38,7 +38,8 @@ fn word_of(word: &[u8]) -> Option<Word> {
     }
 }
 
-// The command line: which of its words are the names of files, and how to colour.
+// The command line: which of its words are the names of files, and how to colour. It has the numbers of those words and
+// not the words: there is no heap, and a word is laid in memory of whoever reads it.
 #[derive(Clone, Copy)]
 pub struct Arguments {
     pub file: Option<usize>,

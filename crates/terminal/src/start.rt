@@ -82,14 +82,6 @@ impl Console {
     }
 }
 
-// The name of a file that a word of the command line is; empty where there is none, as the words of a command are.
-fn name<'a>(rt: &HostRuntime, at: Option<usize>, memory: &'a mut [u8; PATH_MAX]) -> &'a [u8] {
-    match at {
-        Some(i) => word(rt, i, memory).unwrap_or(&[]),
-        None => &[],
-    }
-}
-
 // The game to start with: the one that the command line names, or the one that is built in.
 fn first_game(rt: &HostRuntime, args: Arguments) -> Option<Game> {
     let coloured = args.colour.is_on(rt);
@@ -104,9 +96,9 @@ fn first_game(rt: &HostRuntime, args: Arguments) -> Option<Game> {
     };
     let right = built_in_solution();
     let mut path = [0u8; PATH_MAX];
+    let path = word(rt, file, &mut path).unwrap_or(&[]);
     let mut solution = [0u8; PATH_MAX];
-    let path = name(rt, Some(file), &mut path);
-    let solution = name(rt, args.solution, &mut solution);
+    let solution = args.solution.and_then(|i| word(rt, i, &mut solution));
     let board = memory.load(rt, path, solution, &right)?;
     Some(Game {
         board,

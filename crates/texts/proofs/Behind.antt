@@ -1,10 +1,11 @@
 -- Words, one behind the other: behind the last one there is none.
 -- Assumes nothing.
-use Rattle.std.proofs.Common.{◌≡◌, ℕ, suc, ◌+◌, true, false, List, [], ◌∷◌, length, take, drop, refl, sym, ap, ◌∙◌, arith, eqb, ltb}
+use Rattle.std.proofs.Common.{◌≡◌, ℕ, suc, ◌+◌, true, false, List, [], ◌∷◌, Bor, length, take, drop, refl, sym, ap, ◌∙◌, arith, eqb, ltb}
 use Rattle.sudoku.specs.Tests.{bit}
 use Rattle.sudoku.proofs.Walks.{by_test}
 use borrow.Author.Tests.{eqb-true, eqb-false, lt-ltb}
-use Rattle.texts.specs.Commands.{is_blank, from_word, word_of, behind_word, counted, said_as, said_of}
+use Rattle.texts.specs.declared.Words.TheVariants as words
+use Rattle.texts.specs.Commands.{is_blank, from_word, word_of, behind_word, counted, said, said_of}
 
 -- ---- an empty word is the last
 
@@ -60,49 +61,55 @@ is_none (byte ∷ word) h = absurd (omega (arith, eqb-true (length (byte ∷ wor
 
 -- ---- what is said of a text whose words are these, by which of them are empty
 
-abbrev IsEmpty : List ℕ → Type 0
-IsEmpty word = eqb (length word) 0 ≡ true
+abbrev IsEmpty : Bor (List ℕ) → Type 0
+IsEmpty word = eqb (length word.now) 0 ≡ true
 
-abbrev IsThere : List ℕ → Type 0
-IsThere word = eqb (length word) 0 ≡ false
+abbrev IsThere : Bor (List ℕ) → Type 0
+IsThere word = eqb (length word.now) 0 ≡ false
 
-module _ (text one : List ℕ) (first : one ≡ word_of text) where
-  empty_one : IsEmpty one → [] ≡ word_of text
-  empty_one h = sym (is_none one h) ∙ first
+pub no_word_said : (text : List ℕ) (one : Bor (List ℕ)) → one.now ≡ word_of text → IsEmpty one → said words.Zero ≡ said_of text
+unfolding said said_of
+no_word_said text one first h =
+    let a = sym first ∙ is_none one.now h in
+    let b = none_after text a in
+    let c = none_after (behind_word text) b in
+    let d = none_after (behind_word (behind_word text)) c in
+    simp (a, b, c, d, counted_none [] refl)
 
-  pub no_word_said : IsEmpty one → said_as 0 [] [] [] ≡ said_of text
-  unfolding said_of
-  no_word_said h =
-      let a = sym (empty_one h) in
-      let b = none_after text a in
+module _ (text : List ℕ) (one rest : Bor (List ℕ)) (first : one.now ≡ word_of text) (there : IsThere one) (behind : rest.now ≡ behind_word text) where
+  pub one_word_said : (two : Bor (List ℕ)) → two.now ≡ word_of rest.now → IsEmpty two → said (words.One one) ≡ said_of text
+  unfolding said said_of
+  one_word_said two second h =
+      let b = sym (second ∙ ap word_of behind) ∙ is_none two.now h in
       let c = none_after (behind_word text) b in
       let d = none_after (behind_word (behind_word text)) c in
-      simp (a, b, c, d, counted_none [] refl)
+      simp (sym first, b, c, d, counted_one one.now there, counted_none [] refl)
 
-  module _ (two : List ℕ) (there : IsThere one) (second : two ≡ word_of (behind_word text)) where
-    pub one_word_said : IsEmpty two → said_as 1 one [] [] ≡ said_of text
-    unfolding said_of
-    one_word_said h =
-        let b = sym second ∙ is_none two h in
-        let c = none_after (behind_word text) b in
+  module _ (two rest_two : Bor (List ℕ)) (second : two.now ≡ word_of rest.now) (both : IsThere two) (behind_two : rest_two.now ≡ behind_word rest.now) where
+    pub two_words_said : (three : Bor (List ℕ)) → three.now ≡ word_of rest_two.now → IsEmpty three → said (words.Two one two) ≡ said_of text
+    unfolding said said_of
+    two_words_said three third h =
+        let b = second ∙ ap word_of behind in
+        let c = sym (third ∙ ap word_of (behind_two ∙ ap behind_word behind)) ∙ is_none three.now h in
         let d = none_after (behind_word (behind_word text)) c in
-        simp (sym first, b, c, d, counted_one one there, counted_none [] refl)
+        simp (sym first, sym b, c, d, counted_one one.now there, counted_one two.now both, counted_none [] refl)
 
-    module _ (three : List ℕ) (both : IsThere two) (third : three ≡ word_of (behind_word (behind_word text))) where
-      pub two_words_said : IsEmpty three → said_as 2 one two [] ≡ said_of text
-      unfolding said_of
-      two_words_said h =
-          let c = sym third ∙ is_none three h in
-          let d = none_after (behind_word (behind_word text)) c in
-          simp (sym first, sym second, c, d, counted_one one there, counted_one two both, counted_none [] refl)
+    module _ (three rest_three four : Bor (List ℕ)) (third : three.now ≡ word_of rest_two.now) (all : IsThere three) (behind_three : rest_three.now ≡ behind_word rest_two.now) (fourth : four.now ≡ word_of rest_three.now) where
+      second_is : word_of (behind_word text) ≡ two.now
+      second_is = sym (second ∙ ap word_of behind)
 
-      module _ (four : List ℕ) (all : IsThere three) (fourth : four ≡ word_of (behind_word (behind_word (behind_word text)))) where
-        pub three_words_said : IsEmpty four → said_as 3 one two three ≡ said_of text
-        unfolding said_of
-        three_words_said h =
-            simp (sym first, sym second, sym third, sym fourth, counted_one one there, counted_one two both, counted_one three all, counted_none four (is_none four h))
+      third_is : word_of (behind_word (behind_word text)) ≡ three.now
+      third_is = sym (third ∙ ap word_of (behind_two ∙ ap behind_word behind))
 
-        pub more_words_said : IsThere four → said_as 4 one two three ≡ said_of text
-        unfolding said_of
-        more_words_said h =
-            simp (sym first, sym second, sym third, sym fourth, counted_one one there, counted_one two both, counted_one three all, counted_one four h)
+      fourth_is : word_of (behind_word (behind_word (behind_word text))) ≡ four.now
+      fourth_is = sym (fourth ∙ ap word_of (behind_three ∙ ap behind_word (behind_two ∙ ap behind_word behind)))
+
+      pub three_words_said : IsEmpty four → said (words.Three one two three) ≡ said_of text
+      unfolding said said_of
+      three_words_said h =
+          simp (sym first, second_is, third_is, fourth_is, counted_one one.now there, counted_one two.now both, counted_one three.now all, counted_none four.now (is_none four.now h))
+
+      pub more_words_said : IsThere four → said (words.More one two three) ≡ said_of text
+      unfolding said said_of
+      more_words_said h =
+          simp (sym first, second_is, third_is, fourth_is, counted_one one.now there, counted_one two.now both, counted_one three.now all, counted_one four.now h)

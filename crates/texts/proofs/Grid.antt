@@ -47,25 +47,27 @@ module _ (text cells : List ℕ) (count i : ℕ) (leads : Leads text cells count
         let s : Cells = record { cells = cells; count = count; wrong = i + 1 } in
         next s (simp (e, sym v, lt-leb _ _ h)) ∙ run_wrong text s (length text - (i + 1)) (i + 1) (λ z. omega arith)
 
-  pub by_all : length text ≤ i → cells_of text ≡ so_far cells count
-  unfolding cells_of
-  by_all end = leads ∙ run_all (step text) (so_far cells count) (length text) i end
+  module _ (end : length text ≤ i) where
+    by_all : cells_of text ≡ so_far cells count
+    unfolding cells_of
+    by_all = leads ∙ run_all (step text) (so_far cells count) (length text) i end
 
--- ---- what was found, judged
+    pub are_cells : cells ≡ (cells_of text).cells
+    are_cells = sym (ap (λ (s : Cells). s.cells) by_all)
 
-module _ (found : Cells) (cells : List ℕ) (count : ℕ) where
-  pub is_wrong : (i : ℕ) → found ≡ record { cells = cells; count = count; wrong = i + 1 } → Err (Wrong (i + 1) count) ≡ judged found
-  unfolding judged
-  is_wrong i e = sym (ap judged e ∙ pick_false _ _ _ (ne_eqb (i + 1) 0 (λ z. omega arith)))
+    pub is_few : count < 81 → Err (Few count) ≡ judged (cells_of text)
+    unfolding judged pick
+    is_few h = sym (ap judged by_all ∙ simp (lt-ltb _ _ h))
 
-  pub is_few : count < 81 → found ≡ so_far cells count → Err (Few count) ≡ judged found
-  unfolding judged pick
-  is_few h e = sym (ap judged e ∙ simp (lt-ltb _ _ h))
+    pub is_all : count ≡ 81 → Ok cells ≡ judged (cells_of text)
+    unfolding judged pick
+    is_all h = sym (ap judged by_all ∙ simp h)
 
-  pub is_all : count ≡ 81 → found ≡ so_far cells count → Ok cells ≡ judged found
-  unfolding judged pick
-  is_all h e = sym (ap judged e ∙ simp h)
+    pub is_many : 81 < count → Err Many ≡ judged (cells_of text)
+    unfolding judged pick
+    is_many h = sym (ap judged by_all ∙ simp (le-ltb count 81 (omega arith), ne_eqb count 81 (λ z. omega arith)))
 
-  pub is_many : 81 < count → found ≡ so_far cells count → Err Many ≡ judged found
-  unfolding judged pick
-  is_many h e = sym (ap judged e ∙ simp (le-ltb count 81 (omega arith), ne_eqb count 81 (λ z. omega arith)))
+-- what was found with a wrong character, judged
+pub is_wrong : (found : Cells) (cells : List ℕ) (count i : ℕ) → found ≡ record { cells = cells; count = count; wrong = i + 1 } → Err (Wrong (i + 1) count) ≡ judged found
+unfolding judged
+is_wrong found cells count i e = sym (ap judged e ∙ pick_false _ _ _ (ne_eqb (i + 1) 0 (λ z. omega arith)))

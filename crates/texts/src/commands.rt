@@ -40,7 +40,8 @@ fn word(line: &[u8]) -> (&[u8], &[u8])
     rest.split_at(word_length(rest))
 }
 
-// A number with one more figure; more than 6000 and a figure is held at 65,535.
+// A number with one more figure; more than 6000 and a figure is held at 65,535. Both are far above any row, digit or
+// move, and ten times 6000 and a figure stay below 65,535.
 #[tactic(auto, unfolding(crate::specs::Commands::with_figure, sudoku::specs::Tests::pick, sudoku::specs::Tests::both))]
 fn with_figure(n: usize, byte: u8) -> Option<usize>
     ensures { result ≡ with_figure n byte }
@@ -52,7 +53,9 @@ fn with_figure(n: usize, byte: u8) -> Option<usize>
     }
 }
 
-// The number that a text says.
+// The number that a text says. A long one is held and not refused, since it is a number: what is said of it then is
+// that there is no such cell or move. By no library's parse, which takes +5, and refuses a long number as it does a
+// word.
 pub fn number(text: &[u8]) -> Option<usize>
     ensures { result ≡ number_of text.now }
 {
@@ -66,7 +69,8 @@ pub fn number(text: &[u8]) -> Option<usize>
     Some(n)
 }
 
-// The command of a letter.
+// The command of a letter. A match and no column of NAMES: a line's end, the byte 0 and the letters of no command have
+// one too, and its arms are proved as they stand, where a search in a table wants a proof by hand.
 #[tactic(auto, unfolding(crate::specs::Commands::verb_of_letter, sudoku::specs::Tests::pick))]
 fn verb_of_letter(letter: u8) -> Verb
     ensures { result ≡ verb_of_letter letter }
@@ -96,7 +100,7 @@ fn verb_of_letter(letter: u8) -> Verb
     }
 }
 
-// The commands by their names: those of play, and the others.
+// The commands by their names.
 const NAMES: [(&[u8], Verb); 18] = [
     (b"place", Verb::Place),
     (b"erase", Verb::Erase),
@@ -149,6 +153,7 @@ fn line_verb(name: &[u8]) -> Verb
 }
 
 // The words of a text.
+#[tactic(auto, using(crate::proofs::Behind::no_word_said, crate::proofs::Behind::one_word_said, crate::proofs::Behind::two_words_said, crate::proofs::Behind::three_words_said, crate::proofs::Behind::more_words_said))]
 fn words(text: &[u8]) -> Words<'_>
     ensures { said result ≡ said_of text.now }
 {

@@ -32,6 +32,7 @@ fn put(cells: &mut [u8; 81], count: usize, value: u8) -> usize
 
 // The cells of a text as far as it has cells: the first 81 of those before its first wrong character; and whether they
 // are 81, and all of it.
+#[tactic(auto, using(crate::proofs::Grid::are_cells, crate::proofs::Grid::is_few, crate::proofs::Grid::is_all, crate::proofs::Grid::is_many))]
 fn read(text: &[u8]) -> ([u8; 81], Result<(), CellsError>)
     ensures cells { result.0 ≡ (cells_of text.now).cells }
     ensures whole { MatchResult result.1 (λ _. Ok result.0 ≡ judged (cells_of text.now)) (λ e. Err e ≡ judged (cells_of text.now)) }

@@ -6,7 +6,8 @@ pub mod commands;
 pub mod grids;
 
 // Why a text is not 81 cells: its first character, counted from 1, that is neither a cell nor white space, with how
-// many cells come before it (82 where there are more than 81); or that it has more cells, or how many it has.
+// many cells come before it (82 where there are more than 81); or that it has more cells, or how many it has. No code
+// reads the count of a wrong one: it is what the definition `cells_of` has found by then, and the contracts say it.
 #[derive(Clone, Copy, PartialEq, Eq)]
 pub enum CellsError {
     Wrong { character: usize, count: usize },
@@ -15,7 +16,8 @@ pub enum CellsError {
 }
 
 // The commands of a player, and what stands for one where a line has no word, or one that is no command: of a word of
-// one letter that letter, and none of a longer word, or of the byte 0, which is no letter.
+// one letter that letter, and none of a longer word, or of the byte 0, which is no letter. These two are variants, and
+// no Option stands around the others: the definition of a line's command has a letter for each, so each line has one.
 #[derive(Clone, Copy, PartialEq, Eq)]
 pub enum Verb {
     Place,

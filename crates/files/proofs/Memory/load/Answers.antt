@@ -1,47 +1,45 @@
 -- `files::Memory::load` meets its contract: the files hold what was read.
 -- Assumes nothing.
-use mathlib.Core.Path.{sym, ap, ◌∙◌}
-use lib.ListN.{length}
-use borrow.Author.Tests.{eqb-true, eqb-false}
+use mathlib.Core.Path.{ap, sym, ◌∙◌}
 use Rattle.std.specs.Prelude.{Option}
 use Rattle.board.specs.declared.Board.{Board}
 use Rattle.files.specs.Disk.{unread}
-use Rattle.files.specs.Load.{left, stays}
-use Rattle.files.proofs.Loading.{by_hand, no_solution, by_file}
+use Rattle.files.specs.Load.{left, stays, name_of}
+use Rattle.files.proofs.Loading.{by_hand, no_solution, by_file, none_named, some_named}
 use Rattle.files.proofs.Memory.load.Goals as goal
 
-pub returns-then-is_empty : goal.returns-then-is_empty
-returns-then-is_empty g c =
+pub returns-in-None : goal.returns-in-None
+returns-in-None g c =
     let a = c.args in
     let w = c.load_with.ensures in
     record {
       file = w.file;
       answers = unread;
-      is = w.is ∙ by_hand a.solution.now a.at_hand.now a.self.now.journal a.self.now.checks w.file unread (eqb-true (length a.solution.now) 0 (sym c.if-is_empty.ensures));
+      is = w.is ∙ by_hand (name_of a.solution) a.at_hand.now a.self.now.journal a.self.now.checks w.file unread (none_named a.solution c.named.result c.named.ensures.same c.in-None.is);
     }
 
-pub returns-in_err-right : goal.returns-in_err-right
+pub returns-in_err-right-in-Some : goal.returns-in_err-right-in-Some
 unfolding stays
-returns-in_err-right g c =
+returns-in_err-right-in-Some g c =
     let a = c.args in
-    let s = c.in_err-right.ensures in
+    let s = c.in_err-right-in-Some.ensures in
     record {
       file = unread;
       answers = s.file;
       is =
           ap (λ (b : Option Board). left b a.self.now.journal a.self.now.checks) c.from_residual.ensures
-          ∙ no_solution a.solution.now a.at_hand.now a.self.now.journal a.self.now.checks unread s.file (eqb-false (length a.solution.now) 0 (sym c.if-is_empty.ensures)) (sym s.are);
+          ∙ no_solution (name_of a.solution) a.at_hand.now a.self.now.journal a.self.now.checks unread s.file (some_named a.solution c.named.result c.named.ensures.same c.named.ensures.named c.in-Some.solution c.in-Some.is) (sym s.are);
     }
 
-pub returns : goal.returns
-returns g c =
+pub returns-in_ok-right-in-Some : goal.returns-in_ok-right-in-Some
+returns-in_ok-right-in-Some g c =
     let a = c.args in
-    let s = c.in_ok-right.ensures in
-    let w = c.load_with-2.ensures in
+    let s = c.in_ok-right-in-Some.ensures in
+    let w = c.load_with-in-Some.ensures in
     record {
       file = w.file;
       answers = s.file;
       is =
           w.is
-          ∙ by_file a.solution.now a.at_hand.now a.self.now.journal a.self.now.checks w.file s.file (eqb-false (length a.solution.now) 0 (sym c.if-is_empty.ensures)) c.in_ok-right.right (sym s.are);
+          ∙ by_file (name_of a.solution) a.at_hand.now a.self.now.journal a.self.now.checks w.file s.file (some_named a.solution c.named.result c.named.ensures.same c.named.ensures.named c.in-Some.solution c.in-Some.is) c.in_ok-right-in-Some.right (sym s.are);
     }

@@ -3,8 +3,7 @@
 use Rattle.std.proofs.Common.{ℕ, ◌-◌, ◌≤◌, length, Option, unwrap_or, IfSome, subst, sym, ap, ◌∙◌, arith}
 use Rattle.texts.specs.Grids.{Cells, no_cells}
 use Rattle.sudoku.specs.Tests.{run}
-use Rattle.texts.proofs.Grid.{step, by_space, by_cell, by_wrong, by_all, is_wrong, is_few, is_all, is_many}
-use Rattle.std.proofs.lemmas.Grind.{common_steps}
+use Rattle.texts.proofs.Grid.{step, by_space, by_cell, by_wrong, is_wrong}
 use Rattle.texts.proofs.grids.read.Goals as goal
 
 pub loop-i-init : goal.loop-i-init
@@ -34,21 +33,3 @@ loop-i-preserved c =
     let is = ap (λ (v : Option ℕ). unwrap_or v 10) (sym c.in-Some.is) ∙ c.value_of.ensures.value in
     let digit = subst (λ (v : Option ℕ). IfSome v (λ n. n ≤ 9)) c.in-Some.is c.value_of.ensures.digit in
     by_cell c.args.text.now c.loop-i.cells c.loop-i.count c.loop-i.i c.loop-i.invariant c.loop-i-test.true (sym c.is_space.ensures ∙ c.if-is_space.false) value is digit _ _ c.put-count.ensures.0
-
-pub returns-in-Less-clause-cells : goal.returns-in-Less-clause-cells
-returns-in-Less-clause-cells c = sym (ap (λ (s : Cells). s.cells) (by_all c.args.text.now c.loop-i.cells c.loop-i.count c.loop-i.i c.loop-i.invariant c.loop-i-test.false))
-
-pub returns-in-Less-clause-whole : goal.returns-in-Less-clause-whole
-returns-in-Less-clause-whole c = is_few _ c.loop-i.cells c.loop-i.count (grind (arith, common_steps, c.in-Less.ensures)) (by_all c.args.text.now c.loop-i.cells c.loop-i.count c.loop-i.i c.loop-i.invariant c.loop-i-test.false)
-
-pub returns-in-Equal-clause-cells : goal.returns-in-Equal-clause-cells
-returns-in-Equal-clause-cells c = sym (ap (λ (s : Cells). s.cells) (by_all c.args.text.now c.loop-i.cells c.loop-i.count c.loop-i.i c.loop-i.invariant c.loop-i-test.false))
-
-pub returns-in-Equal-clause-whole : goal.returns-in-Equal-clause-whole
-returns-in-Equal-clause-whole c = is_all _ c.loop-i.cells c.loop-i.count (grind (arith, common_steps, c.in-Equal.ensures)) (by_all c.args.text.now c.loop-i.cells c.loop-i.count c.loop-i.i c.loop-i.invariant c.loop-i-test.false)
-
-pub returns-in-Greater-clause-cells : goal.returns-in-Greater-clause-cells
-returns-in-Greater-clause-cells c = sym (ap (λ (s : Cells). s.cells) (by_all c.args.text.now c.loop-i.cells c.loop-i.count c.loop-i.i c.loop-i.invariant c.loop-i-test.false))
-
-pub returns-in-Greater-clause-whole : goal.returns-in-Greater-clause-whole
-returns-in-Greater-clause-whole c = is_many _ c.loop-i.cells c.loop-i.count (grind (arith, common_steps, c.in-Greater.ensures)) (by_all c.args.text.now c.loop-i.cells c.loop-i.count c.loop-i.i c.loop-i.invariant c.loop-i-test.false)
