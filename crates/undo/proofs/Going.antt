@@ -48,7 +48,7 @@ pub left : (r : Refusal) (b : Board) (a : Answer) → answer r b ≡ a → b ≡
 left r b a e = ap (λ (x : Answer). x.board) e
 
 -- the digit leaves the notes
-pub notes_stay : (w : Way) (s : State) (cell : ℕ) (change : Option DigitChange) → (digit_gone w s cell change).notes ≡ s.notes
+notes_stay : (w : Way) (s : State) (cell : ℕ) (change : Option DigitChange) → (digit_gone w s cell change).notes ≡ s.notes
 unfolding digit_gone put_digit
 notes_stay w s cell (Some change) = refl
 notes_stay w s cell None = refl
