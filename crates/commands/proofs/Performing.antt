@@ -59,6 +59,10 @@ module _ (c : Request) (s : Session) where
   by_none m u k o z =
       by_call c s s None o z (pick_false _ _ _ m ∙ pick_false _ _ _ u ∙ pick_false _ _ _ k) refl
 
+  pub by_other : (v : Verb) → is_move v ≡ false → is_undo v ≡ false → is_check v ≡ false → is_open v ≡ false → is_puzzle v ≡ false → c.verb ≡ v → Performs c s s
+  by_other v m u k o z e =
+      by_none (ap is_move e ∙ m) (ap is_undo e ∙ u) (ap is_check e ∙ k) (ap is_open e ∙ o) (ap is_puzzle e ∙ z)
+
 -- the verbs that name no call
 pub no_move : (v : Verb) → (v ≡ verb.Place → ⊥) → (v ≡ verb.Mark → ⊥) → (v ≡ verb.Strike → ⊥) → (v ≡ verb.Erase → ⊥) → is_move v ≡ false
 unfolding is_move

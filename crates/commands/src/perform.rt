@@ -337,8 +337,8 @@ impl Game {
         self.take_up(loaded);
     }
 
-    // The commands that have no words after them, show something and change nothing. The next move is numbered from those
-    // that stand, of which a board has far fewer than a number holds.
+    // The commands that have no words after them, show something and change nothing. The next move is numbered from
+    // those that stand, of which a board has far fewer than a number holds.
     fn show_alone(&self, verb: Verb) {
         let standing = self.board.standing;
         match verb {
