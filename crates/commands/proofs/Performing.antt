@@ -12,7 +12,7 @@ use Rattle.texts.specs.declared.Words.{Words}
 use Rattle.texts.specs.declared.Words.TheVariants as words
 use Rattle.texts.specs.Commands.{Request, request, said}
 use Rattle.files.specs.Disk.{unread}
-use Rattle.commands.specs.Perform.{is_move, is_undo, is_check, is_open, is_puzzle, move_call, undo_call, check_call, command_call, open_leaves, puzzle_leaves, command_leaves, Opens, Performs}
+use Rattle.commands.specs.Perform.{is_move, is_undo, is_check, is_open, is_puzzle, named_move, undo_call, check_call, command_call, open_leaves, puzzle_leaves, command_leaves, Opens, Performs}
 
 -- a command that looks at no file
 module _ (c : Request) (before after : Session) where
@@ -24,10 +24,11 @@ module _ (c : Request) (before after : Session) where
   by_call d o z e is =
       reads_none (is ∙ sym (pick_false _ _ _ o ∙ pick_false _ _ _ z ∙ ap (λ (x : Option Call). (run_one before x).left) e))
 
-  pub by_move : (v : Verb) → is_move v ≡ true → is_open v ≡ false → is_puzzle v ≡ false → after ≡ (run_one before (move_call c)).left → c.verb ≡ v → Performs c before after
-  unfolding command_call
+  pub by_move : (v : Verb) → is_move v ≡ true → is_open v ≡ false → is_puzzle v ≡ false → after ≡ (run_one before (named_move c)).left → c.verb ≡ v → Performs c before after
+  unfolding command_call named_move
   by_move v m o z is e =
-      by_call (move_call c) (ap is_open e ∙ o) (ap is_puzzle e ∙ z) (pick_true _ _ _ (ap is_move e ∙ m)) is
+      let move = ap is_move e ∙ m in
+      by_call (named_move c) (ap is_open e ∙ o) (ap is_puzzle e ∙ z) (pick_true _ _ _ move ∙ sym (pick_true _ _ _ move)) is
 
   pub by_undo : (v : Verb) → is_move v ≡ false → is_undo v ≡ true → is_open v ≡ false → is_puzzle v ≡ false → after ≡ (run_one before (undo_call c)).left → c.verb ≡ v → Performs c before after
   unfolding command_call
@@ -58,6 +59,10 @@ module _ (c : Request) (s : Session) where
   unfolding command_call run_one called
   by_none m u k o z =
       by_call c s s None o z (pick_false _ _ _ m ∙ pick_false _ _ _ u ∙ pick_false _ _ _ k) refl
+
+  pub by_other : (v : Verb) → is_move v ≡ false → is_undo v ≡ false → is_check v ≡ false → is_open v ≡ false → is_puzzle v ≡ false → c.verb ≡ v → Performs c s s
+  by_other v m u k o z e =
+      by_none (ap is_move e ∙ m) (ap is_undo e ∙ u) (ap is_check e ∙ k) (ap is_open e ∙ o) (ap is_puzzle e ∙ z)
 
 -- the verbs that name no call
 pub no_move : (v : Verb) → (v ≡ verb.Place → ⊥) → (v ≡ verb.Mark → ⊥) → (v ≡ verb.Strike → ⊥) → (v ≡ verb.Erase → ⊥) → is_move v ≡ false

@@ -15,7 +15,6 @@ use Rattle.texts.specs.declared.Verb.TheVariants as verb
 use Rattle.texts.specs.Commands.{number_of, Request}
 use Rattle.files.specs.Disk.{Content}
 use Rattle.files.specs.Load.{Left, load_of, load_line}
-use Rattle.commands.specs.declared.Numbers.{Numbers}
 use Rattle.commands.specs.declared.Game.{Game}
 
 -- ---- the numbers after a command
@@ -23,6 +22,12 @@ use Rattle.commands.specs.declared.Game.{Game}
 -- a number as a byte: what is no byte is no row, no column and no digit either, and 255 is none of these
 unfoldable pub narrowed : ℕ → ℕ
 narrowed n = pick (ltb 255 n) 255 n
+
+-- the numbers of a command that wants two or three
+pub record Numbers : Type 0 where
+  pub row : ℕ
+  pub column : ℕ
+  pub digit : ℕ
 
 -- the third number of a command, 0 where two are wanted
 unfoldable pub third_of : Request → ℕ → Option ℕ
@@ -60,6 +65,10 @@ move_named _ n = Erase n.row n.column
 
 unfoldable pub move_call : Request → Option Call
 move_call c = option_map (λ n. Make (move_named c.verb n)) (numbers_of c (wanted_by c.verb))
+
+-- the call of a command that is a move
+unfoldable pub named_move : Request → Option Call
+named_move c = pick (is_move c.verb) (move_call c) None
 
 unfoldable pub is_undo : Verb → Bool
 is_undo verb.Undo = true

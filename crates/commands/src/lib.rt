@@ -6,14 +6,6 @@ use files::Memory;
 
 pub mod perform;
 
-// The numbers after a command.
-#[derive(Clone, Copy)]
-pub struct Numbers {
-    pub row: u8,
-    pub column: u8,
-    pub digit: u8,
-}
-
 // What is played: the board, and the memory that is lent to its calls; and whether it is shown in colours.
 #[derive(Clone, Copy)]
 pub struct Game {

@@ -1,13 +1,14 @@
 // What each command does: one call of the library, and what it answers shown.
-ghost use Rattle.std.specs.Prelude.{◌≡◌, [], unwrap_or};
+ghost use Rattle.std.specs.Prelude.{◌≡◌, [], option_map, unwrap_or};
+ghost use Rattle.calls.specs.declared.Call.TheVariants.{Make};
 ghost use Rattle.sudoku.specs.Tests.{pick};
 ghost use Rattle.calls.specs.Encoded.{run_one};
 ghost use Rattle.texts.specs.declared.Verb.TheVariants.{Open};
-ghost use Rattle.texts.specs.Commands.{request};
+ghost use Rattle.texts.specs.Commands.{number_of, request};
 ghost use Rattle.files.specs.Load.{name_of};
-ghost use Rattle.commands.specs.Perform.{narrowed, numbers_of, wanted_by, move_named, move_call, undo_call, check_call, played, Opens, puzzle_leaves, Performs};
+ghost use Rattle.commands.specs.Perform.{narrowed, numbers_of, named_move, undo_call, check_call, played, Opens, puzzle_leaves, Performs};
 
-use crate::{Game, Numbers};
+use crate::Game;
 use board::{Answer, Board};
 use files::disk::save;
 use journal::slots::slot_at;
@@ -81,15 +82,6 @@ Marks stand small, each at its own place.\n",
     );
 }
 
-// A number as a byte. What is no byte is no row, no column and no digit either, and 255 is none of these; not by `as`,
-// which would take 257 for 1.
-#[tactic(auto, unfolding(crate::specs::Perform::narrowed, sudoku::specs::Tests::pick))]
-fn narrow(n: usize) -> u8
-    ensures { result ≡ narrowed n }
-{
-    u8::try_from(n).unwrap_or(255)
-}
-
 // The number of a command that wants one; none where it has not one word, or that is no number.
 fn number_of(command: Command<'_>) -> Option<usize> {
     match command.words {
@@ -98,63 +90,53 @@ fn number_of(command: Command<'_>) -> Option<usize> {
     }
 }
 
-// The numbers of a command that wants two, and 0 for a digit; none where it has not two words, or one is no number.
+// A word's number as a byte; none where it is no number. What is no byte is no row, no column and no digit either, and
+// 255 is none of these; not by `as`, which would take 257 for 1.
+#[tactic(auto, unfolding(crate::specs::Perform::narrowed, sudoku::specs::Tests::pick))]
+fn byte(word: &[u8]) -> Option<u8>
+    ensures { result ≡ option_map narrowed (number_of word.now) }
+{
+    let n = number(word)?;
+    Some(u8::try_from(n).unwrap_or(255))
+}
+
+// The row and the column of a command that wants these alone; none where it has not two words, or one is no number.
 #[tactic(auto, unfolding(crate::specs::Perform::numbers_of, crate::specs::Perform::third_of, crate::specs::Perform::are_numbers, crate::specs::Perform::narrowed, texts::specs::Commands::said, sudoku::specs::Tests::pick))]
-fn two_numbers(command: Command<'_>) -> Option<Numbers>
-    ensures { result ≡ numbers_of (request command.entry) 2 }
+fn row_and_column(command: Command<'_>) -> Option<(u8, u8)>
+    ensures { option_map (λ n. record { row = n.0; column = n.1; digit = 0 }) result ≡ numbers_of (request command.entry) 2 }
 {
     let Words::Two(row, column) = command.words else {
         return None;
     };
-    let row = number(row)?;
-    let column = number(column)?;
-    Some(Numbers {
-        row: narrow(row),
-        column: narrow(column),
-        digit: 0,
-    })
+    Some((byte(row)?, byte(column)?))
 }
 
-// The same of a command that wants three.
-#[tactic(auto, unfolding(crate::specs::Perform::numbers_of, crate::specs::Perform::third_of, crate::specs::Perform::are_numbers, texts::specs::Commands::said, sudoku::specs::Tests::pick))]
-fn three_numbers(command: Command<'_>) -> Option<Numbers>
-    ensures { result ≡ numbers_of (request command.entry) 3 }
+// The move that a command names; none where its words are not those that it wants, or one is no number.
+#[tactic(auto, unfolding(crate::specs::Perform::named_move, crate::specs::Perform::move_call, crate::specs::Perform::is_move, crate::specs::Perform::wanted_by, crate::specs::Perform::move_named, crate::specs::Perform::numbers_of, crate::specs::Perform::third_of, crate::specs::Perform::are_numbers, crate::specs::Perform::narrowed, texts::specs::Commands::said, sudoku::specs::Tests::pick))]
+fn move_of(command: Command<'_>) -> Option<Move>
+    ensures { option_map Make result ≡ named_move (request command.entry) }
 {
-    let Words::Three(row, column, digit) = command.words else {
-        return None;
-    };
-    let row = number(row)?;
-    let column = number(column)?;
-    let digit = number(digit)?;
-    Some(Numbers {
-        row: narrow(row),
-        column: narrow(column),
-        digit: narrow(digit),
-    })
-}
-
-// The numbers of a move: erase wants two, any other three.
-#[tactic(auto, unfolding(crate::specs::Perform::wanted_by))]
-fn numbers(command: Command<'_>) -> Option<Numbers>
-    ensures { result ≡ numbers_of (request command.entry) (wanted_by command.entry.verb) }
-{
-    match command.verb {
-        Verb::Erase => two_numbers(command),
-        _ => three_numbers(command),
-    }
-}
-
-// The move that a command names.
-#[tactic(auto, unfolding(crate::specs::Perform::move_named))]
-fn move_named(verb: Verb, n: Numbers) -> Move
-    ensures { result ≡ move_named verb n }
-{
-    let Numbers { row, column, digit } = n;
-    match verb {
-        Verb::Place => Move::Place { row, column, digit },
-        Verb::Mark => Move::WriteMark { row, column, digit },
-        Verb::Strike => Move::StrikeMark { row, column, digit },
-        _ => Move::Erase { row, column },
+    match (command.verb, command.words) {
+        (Verb::Place, Words::Three(row, column, digit)) => Some(Move::Place {
+            row: byte(row)?,
+            column: byte(column)?,
+            digit: byte(digit)?,
+        }),
+        (Verb::Mark, Words::Three(row, column, digit)) => Some(Move::WriteMark {
+            row: byte(row)?,
+            column: byte(column)?,
+            digit: byte(digit)?,
+        }),
+        (Verb::Strike, Words::Three(row, column, digit)) => Some(Move::StrikeMark {
+            row: byte(row)?,
+            column: byte(column)?,
+            digit: byte(digit)?,
+        }),
+        (Verb::Erase, Words::Two(row, column)) => Some(Move::Erase {
+            row: byte(row)?,
+            column: byte(column)?,
+        }),
+        _ => None,
     }
 }
 
@@ -186,17 +168,16 @@ impl Game {
     }
 
     // One of the four moves.
-    #[tactic(auto, unfolding(crate::specs::Perform::move_call, calls::specs::Encoded::run_one, calls::specs::Session::call_of, calls::specs::Session::called))]
+    #[tactic(auto, unfolding(calls::specs::Encoded::run_one, calls::specs::Session::call_of, calls::specs::Session::called))]
     fn make(&mut self, command: Command<'_>)
-        ensures left { played self.new ≡ (run_one (played self.old) (move_call (request command.entry))).left }
+        ensures left { played self.new ≡ (run_one (played self.old) (named_move (request command.entry))).left }
         ensures coloured { self.new.coloured ≡ self.old.coloured }
     {
-        let verb = command.verb;
-        let Some(n) = numbers(command) else {
-            want(verb);
+        let Some(named) = move_of(command) else {
+            want(command.verb);
             return;
         };
-        let answer = play(self.board, &mut self.memory.journal, move_named(verb, n));
+        let answer = play(self.board, &mut self.memory.journal, named);
         self.settle(answer);
     }
 
@@ -211,6 +192,7 @@ impl Game {
             want(verb);
             return;
         };
+        // by the verb again: a call that is handed over would need a clause that says which of the two it is
         let answer = match verb {
             Verb::Undo => undo(self.board, &self.memory.journal),
             _ => redo(self.board, &self.memory.journal),
@@ -224,11 +206,11 @@ impl Game {
         ensures left { played self.new ≡ (run_one (played self.old) (check_call (request command.entry))).left }
         ensures coloured { self.new.coloured ≡ self.old.coloured }
     {
-        let Some(n) = two_numbers(command) else {
+        let Some((row, column)) = row_and_column(command) else {
             want(command.verb);
             return;
         };
-        let answer = check(self.board, &mut self.memory.checks, n.row, n.column);
+        let answer = check(self.board, &mut self.memory.checks, row, column);
         self.board = answer.board;
         if let Err(refused) = answer.refusal.outcome() {
             explain(refused);
@@ -237,9 +219,9 @@ impl Game {
         whole(self.board, self.coloured);
         let asked = Asked {
             standing: self.board.standing,
-            row: n.row,
-            column: n.column,
-            digit: digit_at(&self.board.digits, cell_of(n.row, n.column)),
+            row,
+            column,
+            digit: digit_at(&self.board.digits, cell_of(row, column)),
         };
         verdict(asked, answer.right);
     }
@@ -337,8 +319,8 @@ impl Game {
         self.take_up(loaded);
     }
 
-    // The commands that have no words after them, show something and change nothing. The next move is numbered from those
-    // that stand, of which a board has far fewer than a number holds.
+    // The commands that have no words after them, show something and change nothing. The next move is numbered from
+    // those that stand, of which a board has far fewer than a number holds.
     fn show_alone(&self, verb: Verb) {
         let standing = self.board.standing;
         match verb {

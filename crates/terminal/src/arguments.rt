@@ -1,6 +1,7 @@
 // What the console is started with.
 use files::arguments::{count, word};
 use files::disk::PATH_MAX;
+use std::env::Env;
 use std::io::IsTerminal;
 
 // When to colour.
@@ -12,9 +13,9 @@ pub enum Colour {
 }
 
 impl Colour {
-    pub fn is_on(self, rt: &HostRuntime) -> bool {
+    pub fn is_on<O: IsTerminal>(self, output: &O) -> bool {
         match self {
-            Colour::OnTerminal => rt.stdout().is_terminal(),
+            Colour::OnTerminal => output.is_terminal(),
             Colour::Always => true,
             Colour::Never => false,
         }
@@ -64,7 +65,7 @@ impl Arguments {
     }
 
     // With word i.
-    fn with_word(self, rt: &HostRuntime, i: usize) -> Option<Arguments> {
+    fn with_word<R: Env>(self, rt: &R, i: usize) -> Option<Arguments> {
         let mut memory = [0u8; PATH_MAX];
         match word_of(word(rt, i, &mut memory)?)? {
             Word::Name => self.with_name(i),
@@ -73,7 +74,7 @@ impl Arguments {
     }
 
     // The whole command line; none where something in it is wrong.
-    pub fn read(rt: &HostRuntime) -> Option<Arguments> {
+    pub fn read<R: Env>(rt: &R) -> Option<Arguments> {
         let mut so_far = Arguments {
             file: None,
             solution: None,

@@ -91,34 +91,33 @@ impl Input {
     }
 
     // Reads what the input has: nothing where it ended or cannot be read.
-    fn read_anew(&mut self, rt: &HostRuntime)
+    fn read_anew<I: Read>(&mut self, input: &mut I)
         ensures start { self.new.at ≡ 0 }
         ensures within { self.new.end ≤ length self.new.buffer }
     {
-        let mut input = rt.stdin();
         self.at = 0;
         self.end = input.read(&mut self.buffer).unwrap_or(0);
     }
 
     // The next byte of the input, read anew where all that were read are used; none where it ended.
-    fn next_byte(&mut self, rt: &HostRuntime) -> Option<u8>
+    fn next_byte<I: Read>(&mut self, input: &mut I) -> Option<u8>
         ensures { ByteTaken self.old self.new result }
     {
         if self.at < self.end {
             return self.taken();
         }
-        self.read_anew(rt);
+        self.read_anew(input);
         self.taken()
     }
 
     // The next line; none where the input ended before a byte of one. A proved loop has to end, and nothing says that a
     // line does, so the loop has more turns than any line uses; what was read by then is handed out.
-    pub fn read_line(&mut self, rt: &HostRuntime) -> Option<Line>
+    pub fn read_line<I: Read>(&mut self, input: &mut I) -> Option<Line>
         ensures { LineRead self.old self.new result }
     {
         let mut line = Line::new();
         for _ in 0..u64::MAX {
-            let Some(byte) = self.next_byte(rt) else {
+            let Some(byte) = self.next_byte(input) else {
                 return if line.length == 0 { None } else { Some(line) };
             };
             if byte == b'\n' {

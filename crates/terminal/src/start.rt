@@ -9,7 +9,9 @@ use files::arguments::word;
 use files::disk::PATH_MAX;
 use print::drawing::whole;
 use print::{Printable, show};
-use std::io::IsTerminal;
+use std::env::Env;
+use std::io::{IsTerminal, Read};
+use std::rt::Files;
 use texts::commands::taken_apart;
 use texts::grids::grid;
 use texts::{Command, Verb, Words};
@@ -45,7 +47,7 @@ struct Console {
 
 impl Console {
     // A line that was read, taken apart and performed; answers whether the game goes on.
-    fn obey(&mut self, rt: &HostRuntime, text: &[u8]) -> bool {
+    fn obey<R: Files>(&mut self, rt: &R, text: &[u8]) -> bool {
         if self.echo {
             show(format_args!("{}\n", Printable(text)));
         }
@@ -58,7 +60,7 @@ impl Console {
     }
 
     // What came instead of a line, or the line; answers whether the game goes on.
-    fn answer(&mut self, rt: &HostRuntime, got: Option<Line>) -> bool {
+    fn answer<R: Files>(&mut self, rt: &R, got: Option<Line>) -> bool {
         let Some(line) = got else {
             show("\n");
             return false;
@@ -71,10 +73,10 @@ impl Console {
     }
 
     // Line after line, until the game is left or the input ends: there are more turns than any game uses.
-    fn play(&mut self, rt: &HostRuntime) {
+    fn play<R: Files, I: Read>(&mut self, rt: &R, input: &mut I) {
         for _ in 0..u64::MAX {
             show("> ");
-            let got = self.input.read_line(rt);
+            let got = self.input.read_line(input);
             if !self.answer(rt, got) {
                 return;
             }
@@ -83,8 +85,7 @@ impl Console {
 }
 
 // The game to start with: the one that the command line names, or the one that is built in.
-fn first_game(rt: &HostRuntime, args: Arguments) -> Option<Game> {
-    let coloured = args.colour.is_on(rt);
+fn first_game<R: Files + Env>(rt: &R, args: Arguments, coloured: bool) -> Option<Game> {
     let mut memory = Memory::new();
     let Some(file) = args.file else {
         let board = built_in(&mut memory);
@@ -108,8 +109,13 @@ fn first_game(rt: &HostRuntime, args: Arguments) -> Option<Game> {
 }
 
 // The game, where the board to start with opens.
-fn begin(rt: &HostRuntime, args: Arguments) {
-    let Some(game) = first_game(rt, args) else {
+fn begin<R: Files + Env, I: Read + IsTerminal>(
+    rt: &R,
+    input: &mut I,
+    args: Arguments,
+    coloured: bool,
+) {
+    let Some(game) = first_game(rt, args, coloured) else {
         return;
     };
     show("pawdoku: type a command, as place 1 3 4, or help\n");
@@ -117,15 +123,15 @@ fn begin(rt: &HostRuntime, args: Arguments) {
     let mut console = Console {
         game,
         input: Input::new(),
-        echo: !rt.stdin().is_terminal(),
+        echo: !input.is_terminal(),
     };
-    console.play(rt);
+    console.play(rt, input);
 }
 
-// The console.
-pub fn run(rt: &HostRuntime) {
+// The console, on an input and an output: no runtime's bound gives the standard ones, or says that they are a terminal.
+pub fn run<R: Files + Env, I: Read + IsTerminal, O: IsTerminal>(rt: &R, input: &mut I, output: &O) {
     match Arguments::read(rt) {
-        Some(args) => begin(rt, args),
+        Some(args) => begin(rt, input, args, args.colour.is_on(output)),
         None => show("console [--colour | --plain] [RECORD [SOLUTION] | PUZZLE SOLUTION]\n"),
     }
 }

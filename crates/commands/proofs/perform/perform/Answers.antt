@@ -1,11 +1,11 @@
 -- `commands::perform::perform` meets its contract. Only open looks at files.
 -- Assumes nothing.
-use Rattle.std.proofs.Common.{refl, ap}
+use Rattle.std.proofs.Common.{refl}
 use mathlib.Core.Logic.{⊎_elim}
 use Rattle.texts.specs.declared.Verb.TheVariants as verb
 use Rattle.texts.specs.Commands.{request}
 use Rattle.commands.specs.Perform.{played, is_move, is_undo, is_check, is_open, is_puzzle}
-use Rattle.commands.proofs.Performing.{by_move, by_undo, by_check, by_open, by_puzzle, by_none, no_move, no_undo, no_check_lem, no_open, no_puzzle}
+use Rattle.commands.proofs.Performing.{by_move, by_undo, by_check, by_open, by_puzzle, by_none, by_other, no_move, no_undo, no_check_lem, no_open, no_puzzle}
 use Rattle.commands.proofs.perform.perform.Goals as goal
 
 pub returns-in-Place-clause-performed : goal.returns-in-Place-clause-performed
@@ -35,14 +35,12 @@ returns-in-Puzzle-clause-performed g c = by_puzzle (request c.args.command) (pla
 pub returns-in-Save-clause-performed : goal.returns-in-Save-clause-performed
 unfolding is_move is_undo is_check is_open is_puzzle
 returns-in-Save-clause-performed g c =
-    let is = c.in-Save.is in
-    by_none (request c.args.command) (played c.args.game.now) (ap is_move is) (ap is_undo is) (ap is_check is) (ap is_open is) (ap is_puzzle is)
+    by_other (request c.args.command) (played c.args.game.now) verb.Save refl refl refl refl refl c.in-Save.is
 
 pub returns-in-NoWord-clause-performed : goal.returns-in-NoWord-clause-performed
 unfolding is_move is_undo is_check is_open is_puzzle
 returns-in-NoWord-clause-performed g c =
-    let is = c.in-NoWord.is in
-    by_none (request c.args.command) (played c.args.game.now) (ap is_move is) (ap is_undo is) (ap is_check is) (ap is_open is) (ap is_puzzle is)
+    by_other (request c.args.command) (played c.args.game.now) verb.NoWord refl refl refl refl refl c.in-NoWord.is
 
 pub returns-in_default-clause-performed : goal.returns-in_default-clause-performed
 returns-in_default-clause-performed g c =

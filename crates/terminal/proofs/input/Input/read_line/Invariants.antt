@@ -4,4 +4,4 @@ use Rattle.terminal.proofs.Reading.{Going}
 use Rattle.terminal.proofs.input.Input.read_line.Given as goal
 
 abbrev pub invariant-loop : goal.invariant-loop
-invariant-loop l = Going l.initial.self l.self l.line
+invariant-loop g l = Going l.initial.self l.self l.line
