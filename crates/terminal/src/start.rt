@@ -128,7 +128,8 @@ fn begin<R: Files + Env, I: Read + IsTerminal>(
     console.play(rt, input);
 }
 
-// The console, on an input and an output: no runtime's bound gives the standard ones, or says that they are a terminal.
+// The console, on an input and an output. They are handed over: the bound `Input` reads a pipe byte by byte, and no
+// bound of a runtime says whether a stream is a terminal.
 pub fn run<R: Files + Env, I: Read + IsTerminal, O: IsTerminal>(rt: &R, input: &mut I, output: &O) {
     match Arguments::read(rt) {
         Some(args) => begin(rt, input, args, args.colour.is_on(output)),
