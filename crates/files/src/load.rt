@@ -128,7 +128,7 @@ impl Memory {
                 self.take_up(answer, &own)
             }
             Err(error) => {
-                explain_line(error, line);
+                explain_line(error.into(), line);
                 None
             }
         }
@@ -144,7 +144,7 @@ impl Memory {
             Ok(right) => self.open_line(line, &right),
             Err(error) => {
                 show("the solution's line is ");
-                explain_line(error, solution);
+                explain_line(error.into(), solution);
                 None
             }
         }

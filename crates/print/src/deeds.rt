@@ -19,7 +19,7 @@ impl Display for At {
     }
 }
 
-// The peers of the move's cell that lost the mark.
+// The peers of the move's cell that lost the mark. The mask is halved from peer to peer, as the changes of marks do.
 #[derive(Clone, Copy)]
 struct Struck(Slot);
 

@@ -1,7 +1,6 @@
 // Every refusal in plain words, here and nowhere else. Numbers, places and inner numbers are the documents': a call
 // answers the programs as it answers C (docs/DECISIONS.md, 47).
 use crate::{Count, Printable, is_printable, show};
-use lines::error::LineError;
 use puzzle::{Refusal, byte_at, index_of};
 use std::fmt;
 use std::fmt::Display;
@@ -194,38 +193,32 @@ impl Display for Found {
     }
 }
 
-// What came of a line that is not read: where it is none how many characters, lest one that was cut short or has grown
-// be taken for a fault of the reader, and else which of them is of another sort. The error comes from `line_digits`,
-// which has these two alone.
+// What of a line was refused: by 36 how many characters came, lest a line that was cut short or has grown be taken for
+// a fault of the reader, and by 37 which one is of another sort. By the refusal's number, as every call answers the
+// programs: to want the error would ask more of a caller.
 #[derive(Clone, Copy)]
 struct WhatCame<'a> {
-    error: LineError,
+    refused: Refusal,
     line: &'a [u8],
 }
 
 impl<'a> Display for WhatCame<'a> {
     fn fmt<W: fmt::Write>(&self, f: &mut fmt::Formatter<W>) -> fmt::Result {
-        match self.error {
-            LineError::NotALine => {
-                let n = self.line.len();
-                let came = Count {
-                    n,
-                    one: " byte came",
-                    more: " bytes came",
-                };
-                write!(f, "; {came}")
-            }
-            LineError::OtherSort { character } => {
-                let found = Found(byte_at(self.line, index_of(character)));
-                write!(f, ": {found}")
-            }
-            LineError::Play(_) | LineError::OutputTooShort => Ok(()),
+        if self.refused.number == 36 {
+            let n = self.line.len();
+            let came = Count {
+                n,
+                one: " byte came",
+                more: " bytes came",
+            };
+            return write!(f, "; {came}");
         }
+        let found = Found(byte_at(self.line, index_of(self.refused.place)));
+        write!(f, ": {found}")
     }
 }
 
-// Why a puzzle's line is not read, on a line of its own, with what came instead.
-pub fn explain_line(error: LineError, line: &[u8]) {
-    let explained = Explained(error.into());
-    show(format_args!("{explained}{}\n", WhatCame { error, line }));
+// A refusal of a puzzle's line on a line of its own, with what came instead.
+pub fn explain_line(r: Refusal, line: &[u8]) {
+    show(format_args!("{}{}\n", Explained(r), WhatCame { refused: r, line }));
 }

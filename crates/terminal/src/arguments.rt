@@ -22,7 +22,7 @@ impl Colour {
     }
 }
 
-// What a word of the command line is.
+// What a word of the command line is: a name is a word too, and so this is no Option.
 #[derive(Clone, Copy)]
 enum Word {
     Name,

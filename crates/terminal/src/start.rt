@@ -16,7 +16,7 @@ use texts::commands::taken_apart;
 use texts::grids::grid;
 use texts::{Command, Verb, Words};
 
-// The solution of the puzzle that is built in.
+// The solution of the puzzle that is built in. Its text is a grid; were it none, opening would refuse the 81 blanks.
 fn built_in_solution() -> [u8; 81] {
     let found = grid(
         b"534678912672195348198342567859761423426853791713924856961537284287419635345286179",
