@@ -333,8 +333,8 @@ impl Game {
         }
     }
 
-    // The commands that show something and change nothing. Apart from `perform`, which names those that do more, and from
-    // those that stand alone: one match of all would be a long function.
+    // The commands that show something and change nothing. Apart from `perform`, which names those that do more, and
+    // from those that stand alone: one match of all would be a long function.
     fn show(&self, command: Command<'_>) {
         match (command.verb, command.words) {
             (Verb::Move, _) => self.read_move(command),
