@@ -28,7 +28,7 @@ fn not_shown(refusal: Refusal) -> Shown
 }
 
 // The part that holds the slot behind `others`, copied to the output's start; refused as the slot is, and by 34 where
-// the output is too short, as a record is by the error of that number.
+// the output is too short, of which the record's writing has the error.
 #[tactic(auto, unfolding(crate::specs::Library::shown, crate::specs::Library::not_shown, crate::specs::Library::shown_at, crate::specs::Library::show_number, sudoku::specs::Tests::first, sudoku::specs::Tests::pick, journal::specs::Bytes::over))]
 fn shown(slot: Result<&[u8], PlayError>, others: usize, output: &mut [u8]) -> Shown
     requires { IfOk slot (λ part. (length part.now ≡ slot_bytes) × (slot_bytes * others < 2 ^ 64)) }

@@ -47,7 +47,6 @@ pub trait Direction {
 
 pub struct Back;
 
-#[tactic(auto, unfolding(sudoku::specs::Tests::first, sudoku::specs::Tests::pick))]
 impl Direction for Back {
     ghost way = { back };
 
@@ -83,7 +82,6 @@ impl Direction for Back {
 
 pub struct Again;
 
-#[tactic(auto, unfolding(sudoku::specs::Tests::first, sudoku::specs::Tests::pick))]
 impl Direction for Again {
     ghost way = { again };
 
