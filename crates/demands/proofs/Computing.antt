@@ -49,7 +49,7 @@ unfolding givens.triples givens.triple_bytes givens.givens_by givens.precedes gi
 of_givens_lem = 0
 
 unfoldable of_puzzle : ℕ
-unfolding puzzle.is_held puzzle.holds_digit puzzle.conflicts puzzle.is_full puzzle.is_consistent puzzle.settled
+unfolding puzzle.is_held puzzle.holds_digit puzzle.conflicts puzzle.is_full puzzle.is_consistent puzzle.settled puzzle.stands_clear puzzle.clear_cells puzzle.digits_left puzzle.keypad
 of_puzzle = 0
 
 unfoldable of_vouch : ℕ

@@ -28,4 +28,5 @@ pub mod Readings
 pub mod Undo
 pub mod LineRows
 pub mod PuzzleLines
+pub mod Keypad
 pub mod Order

@@ -9,6 +9,7 @@ use Rattle.demands.proofs.Readings.{readings}
 use Rattle.demands.proofs.Positions.{positions}
 use Rattle.demands.proofs.Layouts.{layouts}
 use Rattle.demands.proofs.PuzzleLines.{line_theorem}
+use Rattle.demands.proofs.Keypad.{keypad_theorem}
 
 pub order : Order
 order =
@@ -21,4 +22,5 @@ order =
       positions = positions;
       layouts = layouts;
       lines = line_theorem;
+      keypad = keypad_theorem;
     }

@@ -8,4 +8,5 @@ pub mod PlayTheorem
 pub mod Readings
 pub mod Layouts
 pub mod PuzzleLines
+pub mod Keypad
 pub mod Order

@@ -9,6 +9,7 @@ use Rattle.demands.specs.Readings.{ReadingsTheorem}
 use Rattle.demands.specs.Positions.{Positions}
 use Rattle.demands.specs.Layouts.{Layouts}
 use Rattle.demands.specs.PuzzleLines.{LineTheorem}
+use Rattle.demands.specs.Keypad.{KeypadTheorem}
 
 pub record Order : Type 0 where
   -- Solved.antt: a board that calls reach is solved exactly when every row, column and box holds each of 1 to 9 once
@@ -32,3 +33,7 @@ pub record Order : Type 0 where
   -- PuzzleLines.antt: a written line read back yields the board's givens; a read line that opens, written from its
   -- board after any calls, is that line; what a line yields ascends; a refused call writes nothing
   pub lines : LineTheorem
+  -- Keypad.antt: in every list of digits at most nine cells hold a digit and conflict with no peer, and what is left
+  -- for its key is nine less those; none is left exactly where each row, column and box holds the digit once, and of no
+  -- digit exactly on a solved board; what a digit put into an empty cell does to the keys
+  pub keypad : KeypadTheorem

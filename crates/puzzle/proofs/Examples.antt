@@ -8,7 +8,7 @@ use lib.Dec.{eqb}
 use lib.ListN.{replicate}
 use Rattle.sudoku.specs.Tests.{pick, both, either, bit, every, count, among, keep, listed}
 use Rattle.sudoku.specs.Grid.{is_cell, row_of, column_of, box_index, is_peer_of, are_peers, peers_of, at, put}
-use Rattle.puzzle.specs.Puzzle.{is_held, holds_digit, conflicts, is_full, is_consistent, settled, digits_left}
+use Rattle.puzzle.specs.Puzzle.{is_held, holds_digit, conflicts, is_full, is_consistent, settled, stands_clear, clear_cells, digits_left, keypad}
 
 -- solution G of document 01, and G with 1 and 2 exchanged
 digit_g : ℕ → ℕ
@@ -43,7 +43,10 @@ clashes : (conflicts (fives 1 11) 1 ≡ true) × (conflicts (fives 1 73) 1 ≡ t
 unfolding grid_g digit_g fives listed row_of column_of box_index pick at put is_full is_consistent conflicts holds_digit is_held every both either peers_of is_cell among keep are_peers is_peer_of
 clashes = (refl, refl, refl, refl, refl, refl)
 
--- G holds 8 at cell 81
-lefts : (digits_left grid_g 8 ≡ 0) × (digits_left (put grid_g 81 0) 8 ≡ 1) × (digits_left (fives 1 81) 5 ≡ 7) × (digits_left (fives 1 81) 0 ≡ 0)
-unfolding grid_g digit_g fives listed row_of column_of pick at put digits_left count bit
-lefts = (refl, refl, refl, refl)
+-- G holds 8 at cell 81. Two fives that are no peers count, and two of one box do not: an empty grid has as many fives
+-- left. For key 0, which no keypad has, no cell counts.
+lefts : (digits_left grid_g 8 ≡ 0) × (digits_left (put grid_g 81 0) 8 ≡ 1) × (digits_left (fives 1 81) 5 ≡ 7) × (digits_left (fives 1 11) 5 ≡ 9)
+    × (digits_left (fives 1 81) 0 ≡ 9)
+    × (keypad grid_g ≡ replicate 9 0)
+unfolding grid_g digit_g fives listed row_of column_of box_index pick at put digits_left keypad clear_cells stands_clear count bit conflicts holds_digit is_held both either peers_of is_cell among keep are_peers is_peer_of
+lefts = (refl, refl, refl, refl, refl, refl)

@@ -10,4 +10,8 @@ pub mod GivenBytes
 pub mod Rows
 pub mod Columns
 pub mod EachOnce
+pub mod Clear
+pub mod Grey
+pub mod Keys
+pub mod ClearPut
 pub mod Examples

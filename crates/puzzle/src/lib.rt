@@ -2,13 +2,13 @@
 // what a setter may pose, conflicts, and when a puzzle is solved.
 #![tactic(auto)]
 
-ghost use Rattle.std.specs.Prelude.{◌≡◌, ◌≤◌, ◌-◌, eqb, get_or, drop, set};
-ghost use Rattle.sudoku.specs.Tests.{count};
+ghost use Rattle.std.specs.Prelude.{◌≡◌, ℕ, ◌≤◌, ◌-◌, not, eqb, get_or, drop, set};
+ghost use Rattle.sudoku.specs.Tests.{both};
 ghost use Rattle.sudoku.specs.Grid.{at};
-ghost use Rattle.puzzle.specs.Puzzle.{is_held, holds_digit, conflicts as conflicts_at, is_full, is_consistent, settled as settled_by, digits_left};
+ghost use Rattle.puzzle.specs.Puzzle.{is_held, holds_digit, conflicts as conflicts_at, is_full, is_consistent, settled as settled_by, stands_clear, clear_cells, digits_left, keypad as keypad_of};
 
 use orders::{BOXES, ROWS};
-use sudoku::{SIDE, peers};
+use sudoku::{CELLS, SIDE, in_range, peers};
 use units::{clear_in, columns_clear};
 
 pub mod answer;
@@ -146,23 +146,61 @@ pub fn settled(digits: &[u8; 81], solved: u8) -> u8
     }
 }
 
-// How many cells hold the digit.
-fn cells_holding(digits: &[u8; 81], digit: u8) -> u8
-    ensures { (result ≡ count (λ cell. eqb (at digits.now cell) digit) 81 1) × (result ≤ 81) }
+// Whether a cell counts for a key: it holds the digit, and no peer of it does. The digit is asked first, since most
+// cells hold another one.
+#[tactic(auto, unfolding(crate::specs::Puzzle::stands_clear, sudoku::specs::Tests::both))]
+fn stands_clear(digits: &[u8; 81], digit: u8, cell: usize) -> bool
+    ensures { result ≡ stands_clear digits.now digit cell }
+{
+    digit_at(digits, cell) == digit && holds_digit(digits, cell) && !conflicts(digits, cell)
+}
+
+// How many cells hold the digit and conflict with no peer: never more than nine, since no two of them share a row.
+// A loop, since `filter` and `count` give a usize where nine less it is wanted as a byte.
+#[tactic(auto, using(crate::proofs::Clear::at_most_nine, sudoku::proofs::Walks::count_all), unfolding(crate::specs::Puzzle::clear_cells))]
+fn clear_cells(digits: &[u8; 81], digit: u8) -> u8
+    ensures { (result ≡ clear_cells digits.now digit) × (result ≤ 9) }
 {
     let mut n: u8 = 0;
-    for held in digits {
-        if *held == digit {
-            n += 1; // in a byte: `filter` and `count`, in a usize, take ten times as long
+    for cell in 1..=CELLS {
+        if stands_clear(digits, digit, cell) {
+            n += 1;
         }
     }
     n
 }
 
-// Digits left for a key: nine less the cells that hold the digit, and none where more than nine do.
+// Digits left for a key: nine less the cells that hold the digit and conflict with no peer.
 #[tactic(auto, unfolding(crate::specs::Puzzle::digits_left))]
 pub fn digits_left(digits: &[u8; 81], digit: u8) -> u8
     ensures { result ≡ digits_left digits.now digit }
 {
-    SIDE.saturating_sub(cells_holding(digits, digit))
+    SIDE - clear_cells(digits, digit)
+}
+
+// The digit of a cell that conflicts with no peer; 0 where it conflicts, as where the cell holds none.
+#[tactic(auto, unfolding(crate::specs::Puzzle::stands_clear, crate::specs::Puzzle::holds_digit, sudoku::specs::Tests::both))]
+fn clear_digit(digits: &[u8; 81], cell: usize) -> u8
+    ensures { (digit : ℕ) → stands_clear digits.now digit cell ≡ both (not (eqb digit 0)) (eqb result digit) }
+{
+    if conflicts(digits, cell) {
+        0
+    } else {
+        digit_at(digits, cell)
+    }
+}
+
+// The keypad whole: digits left for each of the keys 1 to 9. In one pass: nine walks take a third longer.
+#[tactic(auto, using(sudoku::proofs::Grid::range_from, sudoku::proofs::Grid::range_to, crate::proofs::Keys::ahead_done))]
+pub fn keypad(digits: &[u8; 81]) -> [u8; 9]
+    ensures { result ≡ keypad_of digits.now }
+{
+    let mut left = [SIDE; 9];
+    for cell in 1..=CELLS {
+        let digit = clear_digit(digits, cell);
+        if in_range(digit) {
+            left[usize::from(digit) - 1] -= 1;
+        }
+    }
+    left
 }

@@ -94,6 +94,13 @@ unfolding both
 both_assoc true b c = refl
 both_assoc false b c = refl
 
+pub both_comm : (a b : Bool) → both a b ≡ both b a
+unfolding both
+both_comm true true = refl
+both_comm true false = refl
+both_comm false true = refl
+both_comm false false = refl
+
 both_swap : (a b c d : Bool) → both (both a b) (both c d) ≡ both (both a c) (both b d)
 unfolding both
 both_swap true true c d = refl
