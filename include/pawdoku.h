@@ -36,10 +36,10 @@ extern "C" {
  * but a comment changes, and stands here once.
  *
  * pawdoku_version() is the version of the library that is linked. It need not be asked: the library defines one
- * function with its version in the name, pawdoku_abi_2, and this header refers to the one of its own version, below.
+ * function with its version in the name, pawdoku_abi_3, and this header refers to the one of its own version, below.
  * So an object compiled for another version is refused by the linker, which names the function that is missing. That
  * costs the address of a function in each object, and no instruction. */
-#define PAWDOKU_VERSION 2
+#define PAWDOKU_VERSION 3
 
 #define PAWDOKU_JOIN_(a, b) a##b
 #define PAWDOKU_JOIN(a, b) PAWDOKU_JOIN_(a, b)
@@ -210,6 +210,11 @@ typedef struct {
     uint8_t left;
 } pawdoku_left;
 
+typedef struct {
+    pawdoku_refusal refusal;
+    uint8_t left[9];                       /* of digit 1 first, of digit 9 last */
+} pawdoku_keypad_answer;
+
 /* Move k, and the digits and notes as they stood once it and no later one had been made. */
 typedef struct {
     pawdoku_refusal refusal;
@@ -241,6 +246,7 @@ PAWDOKU_ASSERT(sizeof(pawdoku_shown) == 40, "pawdoku_shown");
 PAWDOKU_ASSERT(sizeof(pawdoku_cell_answer) == 32, "pawdoku_cell_answer");
 PAWDOKU_ASSERT(sizeof(pawdoku_yes_no) == 32, "pawdoku_yes_no");
 PAWDOKU_ASSERT(sizeof(pawdoku_left) == 32, "pawdoku_left");
+PAWDOKU_ASSERT(sizeof(pawdoku_keypad_answer) == 40, "pawdoku_keypad_answer");
 PAWDOKU_ASSERT(sizeof(pawdoku_reading_answer) == 288, "pawdoku_reading_answer");
 PAWDOKU_ASSERT(sizeof(pawdoku_digits) == 9, "pawdoku_digits");
 PAWDOKU_ASSERT(sizeof(pawdoku_peer_cells) == 20, "pawdoku_peer_cells");
@@ -313,7 +319,7 @@ pawdoku_written pawdoku_write_line(pawdoku_board board, uint8_t *output, size_t 
 /* The reading of move k, from 1 to made. Refused by 1, 2, 14, 35. */
 pawdoku_reading_answer pawdoku_reading(pawdoku_board board, const uint8_t *journal, size_t journal_length, size_t k);
 
-/* The questions. Those for a cell are refused by 2 and 3, the keypad's by 2 and 8, the others by 2. */
+/* The questions. Those for a cell are refused by 2 and 3, the keypad's for one digit by 2 and 8, the others by 2. */
 pawdoku_cell_answer pawdoku_cell(pawdoku_board board, uint8_t row, uint8_t column);
 pawdoku_yes_no pawdoku_conflicts(pawdoku_board board, uint8_t row, uint8_t column);
 pawdoku_yes_no pawdoku_accepts_marks(pawdoku_board board, uint8_t row, uint8_t column);
@@ -323,7 +329,18 @@ pawdoku_yes_no pawdoku_is_full(pawdoku_board board);
 pawdoku_yes_no pawdoku_is_consistent(pawdoku_board board);
 pawdoku_yes_no pawdoku_can_undo(pawdoku_board board);
 pawdoku_yes_no pawdoku_can_redo(pawdoku_board board);
+
+/* Digits left for a key of the keypad: nine less the cells that hold the digit and conflict with no peer, 0 to 9. A key
+ * is to be grey where none is left: exactly then each row, column and box holds the digit once. All nine are grey
+ * exactly on a grid that is solved.
+ * A digit that conflicts does not count, nor does the one that it conflicts with, be it a given. So a digit put into an
+ * empty cell makes its key's number one less where no peer holds it; where peers do, it makes the number greater, by as
+ * many of them as counted until then, which may be none. Another key's number changes only where the cell held that
+ * digit before. The number does not say in how many cells the digit can still be put. The solution is not asked. */
 pawdoku_left pawdoku_digits_left(pawdoku_board board, uint8_t digit);
+/* The whole keypad: what pawdoku_digits_left answers for 1 to 9, in one call, which takes less time than nine.
+ * Refused by 2. */
+pawdoku_keypad_answer pawdoku_keypad(pawdoku_board board);
 
 /* Runs a list of calls, four bytes each: PAWDOKU_CALL_.., row, column, digit. Bytes that a call does not use (digit for
  * an erase and a check; row, column and digit for undo and redo) are not looked at. Writes four bytes for each into the

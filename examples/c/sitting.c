@@ -142,6 +142,22 @@ static void look_at_latest(const struct sitting *s)
     expect(slot[0] == PAWDOKU_PLACE && slot[1] == 1 && slot[2] == 3 && slot[3] == 4, "the latest move is the placement");
 }
 
+/* The keypad in one call. An 8 that clashes with a given does not count, and the given counts no more: its key's number
+ * goes up, and comes back when it is taken away. */
+static void look_at_keypad(struct sitting *s)
+{
+    pawdoku_keypad_answer before = pawdoku_keypad(s->board);
+    expect(before.refusal.number == PAWDOKU_ACCEPTED, "the keypad is answered");
+    printf("digits left:");
+    for (int digit = 1; digit <= 9; digit++)
+        printf(" %d:%d", digit, before.left[digit - 1]);
+    printf("\n");
+    place(s, 1, 4, 8);
+    expect(pawdoku_keypad(s->board).left[8 - 1] == before.left[8 - 1] + 1, "a digit put into a clash makes its number go up");
+    undo(s);
+    expect(pawdoku_digits_left(s->board, 8).left == before.left[8 - 1], "and the number comes back");
+}
+
 /* A digit that is not the solution's is accepted as a move, and a check says so. A given cannot be overwritten. */
 static void check_digits(struct sitting *s)
 {
@@ -203,6 +219,7 @@ int main(int argc, char **argv)
     open_puzzle(&first);
     pencil_and_place(&first);
     look_at_latest(&first);
+    look_at_keypad(&first);
     check_digits(&first);
 
     size_t length = save(&first, argc > 1 ? argv[1] : NULL, record);

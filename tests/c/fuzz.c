@@ -381,6 +381,15 @@ static void try_board_yes_no(void)
     must(call != CAN_REDO || a.holds == (!b->solved && b->standing < b->made), call, "redo promised wrongly");
 }
 
+/* Nine less the cells that hold the digit and conflict with no peer. */
+static int left_for(const pawdoku_board *b, uint8_t digit)
+{
+    int left = 9;
+    for (size_t i = 0; i < PAWDOKU_CELLS; i++)
+        left -= b->digits[i] == digit && !conflicts_at(b, i);
+    return left;
+}
+
 static void try_left(void)
 {
     struct passed p = pass();
@@ -388,10 +397,20 @@ static void try_left(void)
     pawdoku_left a = pawdoku_digits_left(p.board, digit);
     count(DIGITS_LEFT, a.refusal);
     must_be_lowest(DIGITS_LEFT, a.refusal, lowest(&p, 1, 1, 0));
-    int held = 0;
-    for (int i = 0; i < PAWDOKU_CELLS; i++)
-        held += p.board.digits[i] == digit;
-    must(a.left == (a.refusal.number == 0 && held < 9 ? 9 - held : 0), DIGITS_LEFT, "not nine less the cells that hold it");
+    int left = a.refusal.number == 0 ? left_for(&p.board, digit) : 0;
+    must(a.left == left, DIGITS_LEFT, "not nine less the cells that hold it and conflict with no peer");
+}
+
+static void try_keypad(void)
+{
+    struct passed p = pass();
+    pawdoku_keypad_answer a = pawdoku_keypad(p.board);
+    count(KEYPAD, a.refusal);
+    must_be_lowest(KEYPAD, a.refusal, lowest(&p, 1, 1, 0));
+    for (uint8_t digit = 1; digit <= 9; digit++) {
+        int left = a.refusal.number == 0 ? left_for(&p.board, digit) : 0;
+        must(a.left[digit - 1] == left, KEYPAD, "another number than the question for the key says");
+    }
 }
 
 /* ---- a list of calls */
@@ -650,12 +669,12 @@ static void try_grid(void)
 
 /* ---- the run */
 
-/* How often each is tried, of 36. */
-enum { TRIED = 36 };
+/* How often each is tried, of 37. */
+enum { TRIED = 37 };
 static void (*const TRIES[TRIED])(void) = {
     try_move, try_move, try_move, try_move, try_move, try_move, try_move, try_move, try_back, try_back, try_back, try_back, try_check, try_check,
     try_shown, try_shown, try_reading, try_write, try_open, try_open, try_reopen, try_reopen, try_reopen, try_reopen, try_cell, try_cell_yes_no,
-    try_board_yes_no, try_left, try_play, try_notes, try_grid, try_grid,
+    try_board_yes_no, try_left, try_keypad, try_play, try_notes, try_grid, try_grid,
     try_read_line, try_read_line, try_write_line, try_line_and_back,
 };
 

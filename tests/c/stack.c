@@ -249,6 +249,7 @@ static pawdoku_written written;
 static pawdoku_cell_answer cell;
 static pawdoku_yes_no yes_no;
 static pawdoku_left left;
+static pawdoku_keypad_answer keypad;
 static pawdoku_reading_answer reading;
 static pawdoku_digits digits;
 static pawdoku_peer_cells peers;
@@ -291,6 +292,7 @@ ON_EVERY(all_is_consistent, yes_no = pawdoku_is_consistent(at.board))
 ON_EVERY(all_can_undo, yes_no = pawdoku_can_undo(at.board))
 ON_EVERY(all_can_redo, yes_no = pawdoku_can_redo(at.board))
 ON_EVERY(all_digits_left, left = pawdoku_digits_left(at.board, 1))
+ON_EVERY(all_keypad, keypad = pawdoku_keypad(at.board))
 
 static void all_reading(void)
 {
@@ -395,6 +397,7 @@ static const struct {
     {"can_undo", all_can_undo},
     {"can_redo", all_can_redo},
     {"digits_left", all_digits_left},
+    {"keypad", all_keypad},
     {"play", all_play},
     {"notes, grid and version", all_notes_and_grid},
 };

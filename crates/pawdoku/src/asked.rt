@@ -1,9 +1,9 @@
 // The questions, and the keypad's.
 ghost use Rattle.std.specs.Prelude.{◌≡◌};
-ghost use Rattle.questions.specs.Questions.{cell_question, conflicts_question, accepts_marks_question, players_digit_question, status_question, full_question, consistent_question, can_undo_question, can_redo_question, left_question};
+ghost use Rattle.questions.specs.Questions.{cell_question, conflicts_question, accepts_marks_question, players_digit_question, status_question, full_question, consistent_question, can_undo_question, can_redo_question, left_question, keypad_question};
 
 use board::Board;
-use questions::{CellAnswer, Left, YesNo};
+use questions::{CellAnswer, KeypadAnswer, Left, YesNo};
 
 pub fn pawdoku_cell(board: Board, row: u8, column: u8) -> CellAnswer
     ensures { result ≡ cell_question board row column }
@@ -63,4 +63,10 @@ pub fn pawdoku_digits_left(board: Board, digit: u8) -> Left
     ensures { result ≡ left_question board digit }
 {
     questions::digits_left(board, digit)
+}
+
+pub fn pawdoku_keypad(board: Board) -> KeypadAnswer
+    ensures { result ≡ keypad_question board }
+{
+    questions::keypad(board)
 }

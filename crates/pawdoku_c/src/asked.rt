@@ -1,9 +1,9 @@
 // The questions, and the keypad's.
 ghost use Rattle.std.specs.Prelude.{◌≡◌};
-ghost use Rattle.questions.specs.Questions.{cell_question, conflicts_question, accepts_marks_question, players_digit_question, status_question, full_question, consistent_question, can_undo_question, can_redo_question, left_question};
+ghost use Rattle.questions.specs.Questions.{cell_question, conflicts_question, accepts_marks_question, players_digit_question, status_question, full_question, consistent_question, can_undo_question, can_redo_question, left_question, keypad_question};
 
 use board::Board;
-use questions::{CellAnswer, Left, YesNo};
+use questions::{CellAnswer, KeypadAnswer, Left, YesNo};
 
 #[unsafe(no_mangle)]
 pub extern "C" fn pawdoku_cell(board: Board, row: u8, column: u8) -> CellAnswer
@@ -73,4 +73,11 @@ pub extern "C" fn pawdoku_digits_left(board: Board, digit: u8) -> Left
     ensures { result ≡ left_question board digit }
 {
     pawdoku::asked::pawdoku_digits_left(board, digit)
+}
+
+#[unsafe(no_mangle)]
+pub extern "C" fn pawdoku_keypad(board: Board) -> KeypadAnswer
+    ensures { result ≡ keypad_question board }
+{
+    pawdoku::asked::pawdoku_keypad(board)
 }

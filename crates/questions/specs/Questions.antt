@@ -4,7 +4,7 @@
 -- Assumes nothing.
 use Rattle.std.specs.Prelude.{ℕ, Bool, false, not, [], ◌∷◌, ltb, eqb, Result, Ok, Err}
 use Rattle.puzzle.specs.Givens.{is_on, is_given}
-use Rattle.sudoku.specs.Tests.{◌⇒◌, first, pick, both}
+use Rattle.sudoku.specs.Tests.{◌⇒◌, first, pick, both, listed}
 use Rattle.sudoku.specs.Grid.{in_range, on_grid, cell_of}
 use Rattle.puzzle.specs.Refusals.{refusal, accepted}
 use Rattle.puzzle.specs.Puzzle.{conflicts, is_full, is_consistent, digits_left}
@@ -15,6 +15,7 @@ use Rattle.board.specs.Errors.{play_number}
 use Rattle.questions.specs.declared.CellAnswer.{CellAnswer}
 use Rattle.questions.specs.declared.YesNo.{YesNo}
 use Rattle.questions.specs.declared.Left.{Left}
+use Rattle.questions.specs.declared.KeypadAnswer.{KeypadAnswer}
 use Rattle.board.specs.Board.{state_of, is_board}
 
 -- 2; where a position is named, 2 3
@@ -81,7 +82,7 @@ can_undo_question b = yes_no (board_number b) (both (not (is_on b.solved)) (ltb 
 unfoldable pub can_redo_question : Board → YesNo
 can_redo_question b = yes_no (board_number b) (both (not (is_on b.solved)) (ltb b.standing b.made))
 
--- keypad: 2 8; digits left for the key
+-- keypad: 2 8; digits left for a key
 unfoldable pub key_number : Board → ℕ → ℕ
 key_number b digit = first ((not (is_board b) ⇒ 2) ∷ (not (in_range digit) ⇒ 8) ∷ [])
 
@@ -89,3 +90,7 @@ unfoldable pub left_question : Board → ℕ → Left
 left_question b digit =
     let n = key_number b digit in
     record { refusal = refusal n 0 0; left = pick (eqb n 0) (digits_left b.digits digit) 0 }
+
+-- the keypad whole: 2; what the question for a key answers, for each of the keys 1 to 9
+unfoldable pub keypad_question : Board → KeypadAnswer
+keypad_question b = record { refusal = refusal (board_number b) 0 0; left = listed (λ key. (left_question b key).left) 9 1 }

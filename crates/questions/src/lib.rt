@@ -1,7 +1,7 @@
-// The questions (board/cell.rs and parts of board.rs of the original): what a board
-// shows. Each tests the board value (number 2) itself; one for a cell tests its
-// position (3), the keypad's its key (8). Beside a refusal stand zeros and false. Each question is a call of C's:
-// board, row and column come one by one, and questions of one shape stay apart.
+// The questions (board/cell.rs and parts of board.rs of the original): what a board shows. Each tests the board value
+// (number 2) itself; one for a cell tests its position (3), that for a key of the keypad its key (8). Beside a refusal
+// stand zeros and false. Each question is a call of C's: board, row and column come one by one, and questions of one
+// shape stay apart.
 #![tactic(auto)]
 
 ghost use Rattle.std.specs.Prelude.{◌≡◌, not};
@@ -9,7 +9,7 @@ ghost use Rattle.puzzle.specs.Givens.{is_on};
 ghost use Rattle.sudoku.specs.Tests.{both};
 ghost use Rattle.board.specs.Board.{state_of};
 ghost use Rattle.board.specs.Errors.{play_number, number_told};
-ghost use Rattle.questions.specs.Questions.{board_number, cell_number, key_number, yes_no, answered, cell_answer, no_cell, cell_question, conflicts_question, accepts_marks_question, players_digit_question, status_question, full_question, consistent_question, can_undo_question, can_redo_question, left_question};
+ghost use Rattle.questions.specs.Questions.{board_number, cell_number, key_number, yes_no, answered, cell_answer, no_cell, cell_question, conflicts_question, accepts_marks_question, players_digit_question, status_question, full_question, consistent_question, can_undo_question, can_redo_question, left_question, keypad_question};
 
 use board::error::PlayError;
 use board::value::is_board;
@@ -47,6 +47,14 @@ pub struct YesNo {
 pub struct Left {
     pub refusal: Refusal,
     pub left: u8,
+}
+
+// What the keypad answers as a whole: digits left for key 1 first, for key 9 last; zeros beside a refusal.
+#[repr(C)]
+#[derive(Clone, Copy, PartialEq, Eq)]
+pub struct KeypadAnswer {
+    pub refusal: Refusal,
+    pub left: [u8; 9],
 }
 
 // Number 2, which every question asks first.
@@ -210,7 +218,7 @@ pub fn can_redo(board: Board) -> YesNo
     unless_solved(board, board.standing < board.made)
 }
 
-// The keypad: digits left for a key, nine less the cells that hold the digit, never below 0.
+// The keypad: digits left for a key, nine less the cells that hold the digit and conflict with no peer.
 #[tactic(auto, unfolding(crate::specs::Questions::left_question, sudoku::specs::Tests::pick))]
 pub fn digits_left(board: Board, digit: u8) -> Left
     ensures { result ≡ left_question board digit }
@@ -223,6 +231,23 @@ pub fn digits_left(board: Board, digit: u8) -> Left
         Err(e) => Left {
             refusal: Refusal::from(e),
             left: 0,
+        },
+    }
+}
+
+// The keypad whole: digits left for each of the keys 1 to 9. One call, since the board is handed over and tested once.
+#[tactic(auto, using(crate::proofs::Asked::keys_asked, crate::proofs::Asked::no_zero), unfolding(crate::specs::Questions::keypad_question, sudoku::specs::Tests::pick))]
+pub fn keypad(board: Board) -> KeypadAnswer
+    ensures { result ≡ keypad_question board }
+{
+    match board_test(board) {
+        Ok(()) => KeypadAnswer {
+            refusal: accepted(),
+            left: puzzle::keypad(&board.digits),
+        },
+        Err(e) => KeypadAnswer {
+            refusal: Refusal::from(e),
+            left: [0; 9],
         },
     }
 }

@@ -17,7 +17,7 @@ pub use sys::{Board, Refusal};
 
 /// The version of the library's boundary that this wrapper is written for: of the names, layouts and numbers of
 /// include/pawdoku.h. [`sys::version`] is that of the linked library; a library of another version does not link.
-pub const VERSION: u32 = 2;
+pub const VERSION: u32 = 3;
 /// Cells of the grid.
 pub const CELLS: usize = 81;
 /// Moves that a journal holds.

@@ -231,7 +231,8 @@ impl Session {
         answer.refusal.into_result().map(|()| answer)
     }
 
-    /// How many of a digit are left for its key.
+    /// How many of a digit are left for its key: nine less the cells that hold it and conflict with no peer. So a digit
+    /// that is placed where a peer holds it does not count, and that peer counts no more: the number goes up.
     ///
     /// # Errors
     ///
@@ -239,6 +240,12 @@ impl Session {
     pub fn digits_left(&self, digit: u8) -> Refused<u8> {
         let answer = sys::digits_left(self.board(), digit);
         answer.refusal.into_result().map(|()| answer.left)
+    }
+
+    /// The whole keypad: what is left of each of the digits 1 to 9, as [`Self::digits_left`] says it.
+    #[must_use]
+    pub fn keypad(&self) -> [u8; 9] {
+        sys::keypad(self.board()).left
     }
 
     /// Is the board solved?

@@ -135,14 +135,24 @@ pub struct YesNo {
     pub holds: u8,
 }
 
-/// The answer of the keypad question.
+/// The answer of the question for one key of the keypad.
 #[repr(C)]
 #[derive(Debug, Clone, Copy, PartialEq, Eq)]
 pub struct Left {
     /// Why the call was refused, if it was.
     pub refusal: Refusal,
-    /// How many of the digit are left to place.
+    /// Nine less the cells that hold the digit and conflict with no peer.
     pub left: u8,
+}
+
+/// The answer of the question for the whole keypad.
+#[repr(C)]
+#[derive(Debug, Clone, Copy, PartialEq, Eq)]
+pub struct KeypadAnswer {
+    /// Why the call was refused, if it was.
+    pub refusal: Refusal,
+    /// What [`digits_left`] answers for each of the digits 1 to 9.
+    pub left: [u8; 9],
 }
 
 /// Move k, and the digits and notes as they stood once it and no later one had been made.
@@ -199,6 +209,7 @@ const _: () = {
     assert!(size_of::<Written>() == 32 && size_of::<Shown>() == 40);
     assert!(size_of::<CellAnswer>() == 32 && offset_of!(CellAnswer, note) == 28);
     assert!(size_of::<YesNo>() == 32 && size_of::<Left>() == 32);
+    assert!(size_of::<KeypadAnswer>() == 40 && offset_of!(KeypadAnswer, left) == 24);
     assert!(size_of::<ReadingAnswer>() == 288 && offset_of!(ReadingAnswer, index) == 32);
     assert!(offset_of!(ReadingAnswer, notes) == 122);
     assert!(size_of::<Digits>() == 9 && size_of::<PeerCells>() == 20);
@@ -212,11 +223,12 @@ compile_error!("pawdoku is called by the System V ABI for x86-64, where an answe
 // the first argument, and it comes back in rax. So `answer f(board, ...)` and `answer *f(answer *, board, ...)` are the
 // same call. With the pointer shown the caller says where the answer is laid, and nothing has to copy it there.
 mod c {
-    use super::{Answer, Board, CellAnswer, Checked, Digits, Left, PeerCells, ReadingAnswer, Shown, Written, YesNo};
+    use super::{Answer, Board, CellAnswer, Checked, Digits, KeypadAnswer, Left};
+    use super::{PeerCells, ReadingAnswer, Shown, Written, YesNo};
 
     unsafe extern "C" {
         pub fn pawdoku_version() -> u32;
-        pub fn pawdoku_abi_2() -> u32;
+        pub fn pawdoku_abi_3() -> u32;
         pub fn pawdoku_open(
             givens: *const u8,
             givens_length: usize,
@@ -322,6 +334,7 @@ mod c {
         pub fn pawdoku_can_undo(board: Board) -> YesNo;
         pub fn pawdoku_can_redo(board: Board) -> YesNo;
         pub fn pawdoku_digits_left(board: Board, digit: u8) -> Left;
+        pub fn pawdoku_keypad(board: Board) -> KeypadAnswer;
         pub fn pawdoku_play(
             board: Board,
             journal: *mut u8,
@@ -348,7 +361,7 @@ mod c {
 // What these declarations are of: the library has one function with its version in the name, and a library of another
 // version leaves this undefined, so that nothing links with it. Nobody calls it; the name goes with `VERSION`.
 #[used]
-static ABI: unsafe extern "C" fn() -> u32 = c::pawdoku_abi_2;
+static ABI: unsafe extern "C" fn() -> u32 = c::pawdoku_abi_3;
 
 // SAFETY, for every block below: the declarations are the header's (six with the answer's pointer shown), the structs
 // have its layout, every field is an integer (so that any bytes are a value), and each pointer with its length is a
@@ -631,11 +644,19 @@ pub fn can_redo(board: &Board) -> YesNo {
     unsafe { c::pawdoku_can_redo(*board) }
 }
 
-/// How many of a digit are left for its key: nine less the cells that hold it, never below 0. Refused by 2, 8.
+/// How many of a digit are left for its key: nine less the cells that hold it and conflict with no peer. Refused by 2,
+/// 8.
 #[must_use]
 #[inline]
 pub fn digits_left(board: &Board, digit: u8) -> Left {
     unsafe { c::pawdoku_digits_left(*board, digit) }
+}
+
+/// What [`digits_left`] answers for each of the digits 1 to 9. Refused by 2.
+#[must_use]
+#[inline]
+pub fn keypad(board: &Board) -> KeypadAnswer {
+    unsafe { c::pawdoku_keypad(*board) }
 }
 
 /// Runs a list of calls, four bytes each: one of [`crate::call`], row, column, digit. Writes four bytes for each into

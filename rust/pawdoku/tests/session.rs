@@ -61,11 +61,26 @@ fn twenty_marks_come_back() {
 fn solved_is_final() {
     let mut session = Session::open(&all_but_the_last(), &example_solution()).expect("opens");
     assert_eq!(session.digits_left(8), Ok(1));
+    assert_eq!(session.keypad(), [0, 0, 0, 0, 0, 0, 0, 1, 0]);
     session.place(9, 9, 8).expect("placed");
+    assert_eq!(session.keypad(), [0; 9]);
     assert!(session.is_solved() && session.is_full() && session.is_consistent());
     assert_eq!(session.undo().map_err(Refusal::reason), Err(Some(Reason::Solved)));
     let off_grid = session.place(0, 1, 5).map_err(Refusal::reason);
     assert_eq!(off_grid, Err(Some(Reason::NoSuchCell)));
+}
+
+#[test]
+fn a_clash_makes_the_number_go_up() {
+    let mut session = empty();
+    session.place(1, 1, 5).expect("placed");
+    assert_eq!((session.digits_left(5), session.keypad()), (Ok(8), [9, 9, 9, 9, 8, 9, 9, 9, 9]));
+    session.place(1, 9, 5).expect("placed");
+    assert_eq!((session.digits_left(5), session.keypad()), (Ok(9), [9; 9]));
+    session.undo().expect("undone");
+    assert_eq!(session.digits_left(5), Ok(8));
+    let no_key = session.digits_left(0);
+    assert_eq!(no_key.map_err(Refusal::reason), Err(Some(Reason::DigitOutOfRange)));
 }
 
 #[test]
