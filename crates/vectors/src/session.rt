@@ -8,7 +8,7 @@ use journal::{CHECK_BYTES, CHECK_MEMORY, JOURNAL_BYTES, MAX_CHECKS, MAX_MOVES, S
 use lines::{GIVEN_BYTES, GIVENS_ROOM, LINE_BYTES};
 use pawdoku::asked::{
     pawdoku_can_redo, pawdoku_can_undo, pawdoku_cell, pawdoku_digits_left, pawdoku_is_consistent,
-    pawdoku_is_full, pawdoku_is_solved,
+    pawdoku_is_full, pawdoku_is_solved, pawdoku_keypad,
 };
 use pawdoku::grid::pawdoku_cell_of;
 use pawdoku::line::{pawdoku_read_line, pawdoku_write_line};
@@ -17,7 +17,7 @@ use pawdoku::saved::{pawdoku_open, pawdoku_reopen, pawdoku_write};
 use pawdoku::slots::pawdoku_reading;
 use puzzle::digit_at;
 use record::RECORD_BYTES;
-use sudoku::{CELLS, SIDE};
+use sudoku::{CELLS, LINE, SIDE};
 
 // Room for the answers to the calls of a session: no stored one has as many.
 const ANSWERS: usize = 16384;
@@ -97,10 +97,12 @@ fn cells(block: &mut Block, board: Board, tally: &mut Tally) {
     }
 }
 
-// Digits left for each key, one byte each.
+// Digits left for each key, one byte each: asked for the whole keypad, and for each key by itself.
 fn keys(block: &mut Block, board: Board, tally: &mut Tally) {
-    for key in 1..=SIDE {
-        tally.expect(pawdoku_digits_left(board, key).left == block.byte());
+    let stored = block.bytes(LINE);
+    tally.expect_all(&pawdoku_keypad(board).left, stored);
+    for (key, left) in (1..=SIDE).zip(stored) {
+        tally.expect(pawdoku_digits_left(board, key).left == *left);
     }
 }
 

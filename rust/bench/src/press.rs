@@ -8,15 +8,16 @@ use pawdoku::sys;
 use std::time::Instant;
 
 const PRESSES: usize = 100_000;
-/// For each cell its digit, given, conflicting, and nine marks; for each key what is left.
+/// For each cell its digit, given, conflicting, and nine marks; for each key nine less the cells that hold its digit
+/// and conflict with no peer.
 type Screen = [u8; 81 * 12 + 9];
 
 fn draw_theirs(board: &Theirs, screen: &mut Screen) {
-    let mut held = [0u8; 10];
+    let mut clear = [0u8; 10];
     for cell in 0..81 {
         let shown = board.cell(position(cell)).expect("the cell is on the grid");
         let digit = shown.digit().unwrap_or(0);
-        held[usize::from(digit)] += 1;
+        clear[usize::from(digit)] += u8::from(!shown.is_conflicting());
         let out = &mut screen[cell * 12..cell * 12 + 12];
         out[..3].copy_from_slice(&[digit, u8::from(shown.is_given()), u8::from(shown.is_conflicting())]);
         let note = if shown.shows_note() { shown.note() } else { None };
@@ -24,8 +25,8 @@ fn draw_theirs(board: &Theirs, screen: &mut Screen) {
             out[usize::from(mark) + 2] = u8::from(note.is_some_and(|note| note.contains(mark)));
         }
     }
-    for (out, held) in screen[81 * 12..].iter_mut().zip(&held[1..]) {
-        *out = 9u8.saturating_sub(*held);
+    for (out, clear) in screen[81 * 12..].iter_mut().zip(&clear[1..]) {
+        *out = 9 - clear;
     }
 }
 
@@ -38,9 +39,7 @@ fn draw_ours(ours: &Ours, screen: &mut Screen) {
             out[mark + 2] = shown.shown & u8::from(shown.note >> mark & 1 == 1);
         }
     }
-    for (out, key) in screen[81 * 12..].iter_mut().zip(1..) {
-        *out = sys::digits_left(ours.board(), key).left;
-    }
+    screen[81 * 12..].copy_from_slice(&sys::keypad(ours.board()).left);
 }
 
 /// The times of some presses of a sitting that is played again and again, and the screens compared.
@@ -66,11 +65,35 @@ fn presses(puzzle: &Puzzle, calls: &[Call]) -> (Vec<f64>, Vec<f64>) {
     (t, o)
 }
 
+/// The times of the nine keys after each call of a sitting: asked one by one, and in one call.
+fn keys(puzzle: &Puzzle, calls: &[Call]) -> (Vec<f64>, Vec<f64>) {
+    let (mut singly, mut whole) = (Vec::new(), Vec::new());
+    let mut ours = Ours::unopened();
+    while whole.len() < PRESSES {
+        ours.open(puzzle);
+        for &call in calls.iter().take(PRESSES - whole.len()) {
+            ours.make(call);
+            let start = Instant::now();
+            let left: [u8; 9] = std::array::from_fn(|at| sys::digits_left(ours.board(), at as u8 + 1).left);
+            singly.push(start.elapsed().as_nanos() as f64);
+            let start = Instant::now();
+            let keypad = sys::keypad(ours.board());
+            whole.push(start.elapsed().as_nanos() as f64);
+            assert_eq!(keypad.left, left, "both ways say the same");
+        }
+    }
+    (singly, whole)
+}
+
 pub fn table(puzzle: &Puzzle) {
-    let (mut theirs, mut ours) = presses(puzzle, &sitting::calls(puzzle, 300));
+    let calls = sitting::calls(puzzle, 300);
+    let (mut theirs, mut ours) = presses(puzzle, &calls);
     let ((t, t_worst), (o, o_worst)) = (median_and_worst(&mut theirs), median_and_worst(&mut ours));
     heading(&format!("a key press, drawn ({PRESSES} presses)"));
     line("median", t, o);
     line("worst", t_worst, o_worst);
-    println!("\nThe worst press of the library is {:.0} times shorter than 40 ms.\n", 40e6 / o_worst);
+    let (mut singly, mut whole) = keys(puzzle, &calls);
+    let (singly, whole) = (median_and_worst(&mut singly).0, median_and_worst(&mut whole).0);
+    println!("\nThe nine keys of it, in the median: {singly:.0} ns asked one by one, {whole:.0} ns in one call.");
+    println!("The worst press of the library is {:.0} times shorter than 40 ms.\n", 40e6 / o_worst);
 }

@@ -227,6 +227,7 @@ impl Bench<'_> {
         let board = self.board;
         let cell = sys::cell(&board, 0, 0);
         same("a refused answer is empty", &(0, 0, 0), &(cell.digit, cell.note, cell.shown))?;
+        same("a refused keypad is empty", &[0; 9], &sys::keypad(&board).left)?;
         let said = [
             cell.refusal,
             sys::conflicts(&board, 0, 0).refusal,
@@ -238,6 +239,7 @@ impl Bench<'_> {
             sys::can_undo(&board).refusal,
             sys::can_redo(&board).refusal,
             sys::digits_left(&board, 0).refusal,
+            sys::keypad(&board).refusal,
         ];
         said.into_iter().try_for_each(|said| self.refused(said, 2))
     }

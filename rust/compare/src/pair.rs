@@ -11,7 +11,7 @@ use crate::report::{Counts, same, same_bytes, same_cells};
 use crate::script::Step;
 use crate::stored;
 use crate::theirs::{Reading, State, Theirs, slot_of};
-use pawdoku::sys::{self, CellAnswer, ReadingAnswer, Shown, YesNo};
+use pawdoku::sys::{self, CellAnswer, KeypadAnswer, ReadingAnswer, Shown, YesNo};
 use pawdoku::{Board, MAX_CHECKS, MAX_MOVES, Refusal};
 
 /// What differs, in words.
@@ -374,15 +374,20 @@ impl Pair {
         same("is solved", &yes_no(self.state.solved), &sys::is_solved(board))
     }
 
-    /// The keypad is added by document 01: nine less the original's cells that hold the digit, never below 0.
     fn compare_key(&self, digit: u8, counts: &mut Counts) -> Compared {
         counts.questions += 1;
         let answer = sys::digits_left(&self.ours.board, digit);
-        counts.refused(answer.refusal);
-        let holding = self.state.digits.iter().filter(|&&held| held == digit).count();
-        let left = u8::try_from(9_usize.saturating_sub(holding)).unwrap_or(0);
-        let expected = if (1..=9).contains(&digit) { (ACCEPTED, left) } else { (refusal(8, 0, 0), 0) };
-        same("digits left", &expected, &(answer.refusal, answer.left))
+        let answer = (answer.refusal, self.ours.plant.left(&self.ours.board, digit, answer.left));
+        counts.refused(answer.0);
+        let in_range = (1..=9).contains(&digit);
+        let expected = if in_range { (ACCEPTED, self.state.left(digit)) } else { (refusal(8, 0, 0), 0) };
+        same("digits left", &expected, &answer)
+    }
+
+    fn compare_keypad(&self, counts: &mut Counts) -> Compared {
+        counts.questions += 1;
+        let expected = KeypadAnswer { refusal: ACCEPTED, left: self.state.keypad() };
+        same("the keypad", &expected, &sys::keypad(&self.ours.board))
     }
 
     fn compare_notes(&self, counts: &mut Counts) -> Compared {
@@ -406,6 +411,7 @@ impl Pair {
             self.compare_questions(row, column, counts)?;
         }
         (0..=10).try_for_each(|digit| self.compare_key(digit, counts))?;
+        self.compare_keypad(counts)?;
         self.written(counts).map(|_| ())
     }
 }

@@ -53,11 +53,13 @@ pub enum Plant {
     CharacterFromZero,
     /// A line has the player's digits too.
     PlayersDigitInLine,
+    /// A key counts cells that conflict.
+    ClashesCount,
 }
 
 impl Plant {
     /// All errors, by name.
-    pub const ALL: [(&'static str, Self); 20] = [
+    pub const ALL: [(&'static str, Self); 21] = [
         ("own-note-cleared", Self::OwnNoteCleared),
         ("filled-peers-keep-marks", Self::FilledPeersKeepMarks),
         ("undo-marks-all-peers", Self::UndoMarksAllPeers),
@@ -78,6 +80,7 @@ impl Plant {
         ("verdict-in-list", Self::VerdictInList),
         ("character-from-zero", Self::CharacterFromZero),
         ("players-digit-in-line", Self::PlayersDigitInLine),
+        ("clashes-count", Self::ClashesCount),
     ];
 
     /// The error of this name.
@@ -186,6 +189,15 @@ impl Plant {
         if self == Self::CharacterFromZero && written.refusal.number == 37 {
             written.refusal.place -= 1;
         }
+    }
+
+    /// What becomes of the digits left for a key.
+    pub fn left(self, board: &Board, digit: u8, left: u8) -> u8 {
+        if self == Self::ClashesCount && (1..=9).contains(&digit) {
+            let held = board.digits.iter().filter(|&&held| held == digit).count();
+            return u8::try_from(9_usize.saturating_sub(held)).unwrap_or(0);
+        }
+        left
     }
 
     /// What becomes of a line that is written, none of it where that was refused.

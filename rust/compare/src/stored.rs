@@ -120,10 +120,7 @@ fn seen(theirs: &Theirs, state: &State) -> Option<Vec<u8>> {
     for cell in 0..81 {
         bytes.push(bits(&[state.conflicting[cell], state.given[cell] == 1, state.digits[cell] == 0]));
     }
-    for key in 1..=9 {
-        let held = state.digits.iter().filter(|&&digit| digit == key).count();
-        bytes.push(u8::try_from(9_usize.saturating_sub(held)).ok()?);
-    }
+    bytes.extend(state.keypad());
     Some(bytes)
 }
 

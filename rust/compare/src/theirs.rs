@@ -33,6 +33,20 @@ pub struct State {
     pub checks: usize,
 }
 
+impl State {
+    /// Digits left for a key, which the original does not say: documents 01 and 02 add the keypad. Nine less the cells
+    /// that hold the digit and of which the original says that they do not conflict.
+    pub fn left(&self, digit: u8) -> u8 {
+        let cells = self.digits.iter().zip(&self.conflicting);
+        9 - cells.map(|(&held, &conflicting)| u8::from(held == digit && !conflicting)).sum::<u8>()
+    }
+
+    /// The same for each key from 1 to 9.
+    pub fn keypad(&self) -> [u8; 9] {
+        std::array::from_fn(|at| self.left(at as u8 + 1))
+    }
+}
+
 /// The reading of one move.
 #[derive(Debug, Clone, PartialEq, Eq)]
 pub struct Reading {
