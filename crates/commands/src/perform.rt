@@ -78,6 +78,8 @@ help                     h   show this\n\
 quit                     q   leave\n\
 A puzzle's file may have white space among its 81 cells; a mailed line has none.\n\
 [5] is a given, 5 is yours, ! at its corners: the cell clashes.\n\
+Digits left: nine less the cells where the digit stands and does not clash.\n\
+A digit put into a clash makes its number go up: neither of the two counts.\n\
 Marks stand small, each at its own place.\n",
     );
 }
