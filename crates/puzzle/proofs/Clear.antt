@@ -2,21 +2,33 @@
 -- cells do, and what is left and those cells are nine.
 -- Assumes nothing.
 use Prim.Native.Nat.{ℕ, ◌+◌, ◌≤◌}
-use mathlib.Core.Path.{◌≡◌, sym, ap, ◌∙◌}
-use mathlib.Core.Bool.{true}
+use mathlib.Core.Path.{◌≡◌, refl, sym, ap, ◌∙◌}
+use mathlib.Core.Bool.{Bool, true, false, not}
 use mathlib.Core.List.{List}
 use native.Mathlib.Omega.{arith}
-use borrow.Author.Tests.{eqb-true, ne_eqb, not-true}
+use borrow.Author.Tests.{eqb-true, eq-eqb, ne_eqb, not-true}
 use lib.Dec.{eqb}
 use Rattle.sudoku.specs.Tests.{both, count}
-use Rattle.sudoku.specs.Grid.{is_cell, are_peers, at}
-use Rattle.sudoku.proofs.Walks.{not_both_ways, both_true, both_left, both_right, both_false_right, both_comm}
+use Rattle.sudoku.specs.Grid.{is_cell, are_peers, peers_of, at}
+use Rattle.sudoku.proofs.Walks.{by_test, not_both_ways, both_true, both_left, both_right, both_false_right, both_comm}
 use Rattle.sudoku.proofs.Grid.{is_cell_lem, range_from, range_to}
 use Rattle.sudoku.proofs.Counting.{count_zero, count_by_value, total, total_le}
-use Rattle.puzzle.specs.Puzzle.{holds_digit, conflicts, stands_clear, clear_cells, digits_left}
+use Rattle.puzzle.specs.Puzzle.{is_held, holds_digit, conflicts, stands_clear, clear_cells, digits_left}
 use Rattle.puzzle.specs.EachOnce.{Kind, Row, unit_of, in_unit}
 use Rattle.puzzle.proofs.Puzzle.{peers_hold}
 use Rattle.puzzle.proofs.EachOnce.{unit_in_range, unit_apart}
+
+-- a cell counts for a key from 1 on where it holds the digit and no peer does
+pub clear_is : (digits : List ℕ) (e cell : ℕ) → (e ≡ 0 → ⊥) → stands_clear digits e cell ≡ both (eqb (at digits cell) e) (not (is_held digits e (peers_of cell)))
+unfolding stands_clear conflicts holds_digit both
+clear_is digits e cell h =
+    by_test (eqb (at digits cell) e)
+    (λ t. let w : at digits cell ≡ e = eqb-true (at digits cell) e t in rw (w, ne_eqb e 0 h, eq-eqb e e refl) refl)
+    (λ f. rw f (none (holds_digit digits cell)))
+  where
+    none : (t : Bool) → both (both t false) (not (both t (is_held digits (at digits cell) (peers_of cell)))) ≡ false
+    none true = refl
+    none false = refl
 
 module _ (digits : List ℕ) (d : ℕ) where
   -- what a cell that counts holds, and that it conflicts with no peer

@@ -3,7 +3,7 @@
 -- Each cell is looked at before and after: what it adds to the count then, with what a peer loses, is what it added
 -- before and, at the cell itself, what came.
 -- Assumes nothing.
-use Prim.Native.Nat.{ℕ, zero, suc, ◌+◌, ◌≤◌, ◌<◌}
+use Prim.Native.Nat.{ℕ, ◌+◌}
 use mathlib.Core.Path.{◌≡◌, refl, sym, ap, subst, ◌∙◌}
 use mathlib.Core.Bool.{Bool, true, false, not}
 use mathlib.Core.List.{List}
@@ -13,49 +13,14 @@ use lib.Dec.{eqb}
 use lib.ListN.{length}
 use Rattle.sudoku.specs.Tests.{both, either, bit, count}
 use Rattle.sudoku.specs.Grid.{is_cell, are_peers, peers_of, at, put}
-use Rattle.sudoku.proofs.Walks.{by_test, from_here, same_test, both_true, both_left, both_right, either_left, either_right, either_cases}
+use Rattle.sudoku.proofs.Walks.{by_test, same_test, both_true, both_left, both_right, either_left, either_right, either_cases}
 use Rattle.sudoku.proofs.Grid.{cell_from, cell_to, is_cell_lem, at_put, at_put_other, peers_comm, peers_not_self}
-use Rattle.sudoku.proofs.Counting.{count_zero}
-use Rattle.puzzle.specs.Puzzle.{is_held, holds_digit, conflicts, stands_clear, clear_cells, digits_left}
+use Rattle.sudoku.proofs.Counting.{count_zero, count_pairs, count_value}
+use Rattle.puzzle.specs.Puzzle.{is_held, holds_digit, stands_clear, clear_cells, digits_left}
 use Rattle.puzzle.proofs.Puzzle.{PeerHolds, peers_hold}
-use Rattle.puzzle.proofs.Clear.{left_exact}
-
--- ---- counting
-
--- two counts together, number by number
-count_pairs : (f g f' g' : ℕ → Bool) (n i : ℕ) → ((k : ℕ) → i ≤ k → k < i + n → bit (f k) + bit (g k) ≡ bit (f' k) + bit (g' k))
-    → count f n i + count g n i ≡ count f' n i + count g' n i
-unfolding count
-count_pairs f g f' g' zero i h = refl
-count_pairs f g f' g' (suc n) i h =
-    omega (arith, h i (omega arith) (omega arith), count_pairs f g f' g' n (suc i) (λ k l u. h k (omega arith) (omega arith)))
-
--- one number alone
-count_there : (t : Bool) (c n i : ℕ) → i ≤ c → c < i + n → count (λ k. both (eqb k c) t) n i ≡ bit t
-unfolding count both bit
-count_there t c zero i l u = absurd (omega arith)
-count_there t c (suc n) i l u =
-    from_here i c l
-    (λ e.
-    let one : bit (both (eqb i c) t) ≡ bit t = ap (λ b. bit (both b t)) (eq-eqb i c e) in
-    omega (arith, one, count_zero (λ k. both (eqb k c) t) n (suc i) (λ k a b. ap (λ x. both x t) (ne_eqb k c (λ w. omega arith)))))
-    (λ b.
-    let none : bit (both (eqb i c) t) ≡ 0 = ap (λ x. bit (both x t)) (ne_eqb i c (λ w. omega arith)) in
-    omega (arith, none, count_there t c n (suc i) b (omega arith)))
+use Rattle.puzzle.proofs.Clear.{clear_is, left_exact}
 
 -- ---- a cell
-
--- it counts for a key from 1 on where it holds the digit and no peer does
-clear_is : (digits : List ℕ) (e cell : ℕ) → (e ≡ 0 → ⊥) → stands_clear digits e cell ≡ both (eqb (at digits cell) e) (not (is_held digits e (peers_of cell)))
-unfolding stands_clear conflicts holds_digit both
-clear_is digits e cell h =
-    by_test (eqb (at digits cell) e)
-    (λ t. let w : at digits cell ≡ e = eqb-true (at digits cell) e t in rw (w, ne_eqb e 0 h, eq-eqb e e refl) refl)
-    (λ f. rw f (none (holds_digit digits cell)))
-  where
-    none : (t : Bool) → both (both t false) (not (both t (is_held digits (at digits cell) (peers_of cell)))) ≡ false
-    none true = refl
-    none false = refl
 
 -- none counts for key 0
 none_clear : (digits : List ℕ) → clear_cells digits 0 ≡ 0
@@ -135,19 +100,19 @@ module _ (digits : List ℕ) (cell d : ℕ) (long : length digits ≡ 81) (p : i
     lost k = both (eqb d e) (both (are_peers cell k) (stands_clear digits e k))
 
     -- what each cell adds
-    added : (k : ℕ) → is_cell k ≡ true → bit (stands_clear (put digits cell d) e k) + bit (lost k) ≡ bit (stands_clear digits e k) + bit (both (eqb k cell) came)
+    added : (k : ℕ) → is_cell k ≡ true → bit (stands_clear (put digits cell d) e k) + bit (lost k) ≡ bit (stands_clear digits e k) + bit (both (eqb cell k) came)
     unfolding both bit came lost
     added k q =
         rw (clear_is (put digits cell d) e k h, clear_is digits e k h, held_put k q, peers_comm cell k)
-        (by_test (eqb k cell)
-        (λ t. rw (t, eqb-true k cell t, at_put digits cell d long p, empty, ne_eqb 0 e (λ z. h (sym z)), peers_not_self cell) (itself (is_held digits e (peers_of cell)) (eqb d e)))
-        (λ f. rw (f, at_put_other digits cell k d p q (λ i. eqb-false k cell f (sym i))) (elsewhere (eqb (at digits k) e) (is_held digits e (peers_of k)) (eqb d e) (are_peers k cell))))
+        (by_test (eqb cell k)
+        (λ t. rw (t, sym (eqb-true cell k t), at_put digits cell d long p, empty, ne_eqb 0 e (λ z. h (sym z)), peers_not_self cell) (itself (is_held digits e (peers_of cell)) (eqb d e)))
+        (λ f. rw (f, at_put_other digits cell k d p q (eqb-false cell k f)) (elsewhere (eqb (at digits k) e) (is_held digits e (peers_of k)) (eqb d e) (are_peers k cell))))
 
     keys_put : clear_cells (put digits cell d) e + count lost 81 1 ≡ clear_cells digits e + bit came
     unfolding clear_cells
     keys_put =
-        count_pairs (stands_clear (put digits cell d) e) lost (stands_clear digits e) (λ k. both (eqb k cell) came) 81 1 (λ k l u. added k (is_cell_lem k l (omega arith)))
-        ∙ ap (λ (n : ℕ). count (stands_clear digits e) 81 1 + n) (count_there came cell 81 1 (cell_from cell p) (omega (arith, cell_to cell p)))
+        count_pairs (stands_clear (put digits cell d) e) lost (stands_clear digits e) (λ k. both (eqb cell k) came) 81 1 (λ k l u. added k (is_cell_lem k l (omega arith)))
+        ∙ ap (λ (n : ℕ). count (stands_clear digits e) 81 1 + n) (count_value came cell 81 1 (cell_from cell p) (omega (arith, cell_to cell p)))
 
   -- the key of the digit that came
   pub left_put : (d ≡ 0 → ⊥)

@@ -97,6 +97,19 @@ unit_apart f h kind number =
     h a b pa pb (unit_peers a b pa pb kind (eqb-true _ number (both_left _ _ s) ∙ sym (eqb-true _ number (both_left _ _ t))) (λ e. omega arith))
     (both_right (in_unit kind number a) (f a) s) (both_right (in_unit kind number b) (f b) t))
 
+-- where each unit holds a digit once, no two peers hold it: they would be two in the unit that they share
+pub held_apart : (digits : List ℕ) (d : ℕ) → ((kind : Kind) (number : ℕ) → in_range number ≡ true → times_held digits kind number d ≡ 1)
+    → (a b : ℕ) → is_cell a ≡ true → is_cell b ≡ true → are_peers a b ≡ true → at digits a ≡ d → at digits b ≡ d → ⊥
+unfolding times_held in_unit
+held_apart digits d once a b pa pb w ea eb =
+    let u = peers_unit a b w in
+    peers_differ a b w
+    (count_alone (λ k. both (in_unit u.kind (unit_of u.kind a) k) (eqb (at digits k) d)) 81 1 a b
+    (omega (arith, once u.kind (unit_of u.kind a) (unit_in_range u.kind a pa)))
+    (cell_from a pa) (omega (arith, cell_to a pa)) (cell_from b pb) (omega (arith, cell_to b pb))
+    (both_true _ _ (eq-eqb (unit_of u.kind a) _ refl) (eq-eqb _ d ea))
+    (both_true _ _ (eq-eqb (unit_of u.kind b) _ (sym u.same)) (eq-eqb _ d eb)))
+
 -- ---- a grid
 
 module _ (digits : List ℕ) (small : (cell : ℕ) → is_cell cell ≡ true → at digits cell ≤ 9) where
@@ -140,21 +153,16 @@ module _ (digits : List ℕ) (small : (cell : ℕ) → is_cell cell ≡ true →
         ))
         (cell_from cell p) (omega (arith, cell_to cell p))))
 
-    -- two cells of a unit that hold one digit are one
-    alone : (kind : Kind) (a b : ℕ) → is_cell a ≡ true → is_cell b ≡ true → unit_of kind a ≡ unit_of kind b → at digits a ≡ at digits b → (at digits a ≡ 0 → ⊥) → a ≡ b
-    unfolding EachOnce times_held in_unit
-    alone kind a b pa pb s e h =
-        count_alone (λ k. both (in_unit kind (unit_of kind a) k) (eqb (at digits k) (at digits a))) 81 1 a b
-        (omega (arith, once kind (unit_of kind a) (at digits a) (unit_in_range kind a pa) (in_range_lem (at digits a) (omega (arith, h)) (small a pa))))
-        (cell_from a pa) (omega (arith, cell_to a pa)) (cell_from b pb) (omega (arith, cell_to b pb))
-        (both_true _ _ (eq-eqb (unit_of kind a) _ refl) (eq-eqb (at digits a) _ refl))
-        (both_true _ _ (eq-eqb (unit_of kind b) _ (sym s)) (eq-eqb (at digits b) _ (sym e)))
-
+    -- no two peers hold one digit
     consistent_of : is_consistent digits ≡ true
+    unfolding EachOnce
     consistent_of =
         (consistent_exactly digits).1
         (λ a b pa pb w e. by_test (eqb (at digits a) 0) (λ z. eqb-true (at digits a) 0 z)
-        (λ z. let u = peers_unit a b w in absurd (peers_differ a b w (alone u.kind a b pa pb u.same e (eqb-false (at digits a) 0 z)))))
+        (λ z. absurd
+        (held_apart digits (at digits a)
+        (λ kind number r. once kind number (at digits a) r (in_range_lem (at digits a) (omega (arith, eqb-false (at digits a) 0 z)) (small a pa)))
+        a b pa pb w refl (sym e))))
 
   -- full and consistent: every row, column and box holds each of 1 to 9 once
   pub each_once : (both (is_full digits) (is_consistent digits) ≡ true) ↔ EachOnce digits

@@ -2,36 +2,33 @@
 -- are grey exactly where each unit holds each digit once.
 -- Assumes nothing.
 use Prim.Native.Nat.{ℕ, ◌+◌, ◌-◌}
-use mathlib.Core.Path.{◌≡◌, refl, sym, ap, ◌∙◌}
+use mathlib.Core.Path.{◌≡◌, sym, ap, ◌∙◌}
 use mathlib.Core.Logic.{◌↔◌}
 use mathlib.Core.Bool.{true, false, not}
 use mathlib.Core.List.{List}
 use native.Mathlib.Omega.{arith}
 use borrow.Author.Tests.{eqb-true, eq-eqb}
-use lib.Dec.{eqb}
 use lib.ListN.{get_or, replicate}
 use Rattle.std.proofs.lemmas.List.{same_lists, get_or-replicate}
 use Rattle.sudoku.specs.Tests.{both}
-use Rattle.sudoku.specs.Grid.{in_range, is_cell, are_peers, peers_of, at}
+use Rattle.sudoku.specs.Grid.{in_range, is_cell, peers_of, at}
 use Rattle.sudoku.proofs.Walks.{by_test, same_test, not_both_ways, both_true, both_left, both_right, count_same}
-use Rattle.sudoku.proofs.Grid.{cell_from, cell_to, is_cell_lem, range_from, range_to, in_range_lem, peers_differ}
-use Rattle.sudoku.proofs.Counting.{count_zero, count_alone, total_ones, ones_total}
+use Rattle.sudoku.proofs.Grid.{is_cell_lem, range_from, range_to, in_range_lem}
+use Rattle.sudoku.proofs.Counting.{count_zero, total_ones, ones_total}
 use Rattle.sudoku.proofs.Listed.{length_listed, listed_at}
-use Rattle.puzzle.specs.Puzzle.{is_held, holds_digit, conflicts, stands_clear, digits_left, keypad}
-use Rattle.puzzle.specs.EachOnce.{Kind, Row, unit_of, in_unit, times_held, EachOnce}
-use Rattle.puzzle.proofs.Puzzle.{PeerHolds, peers_hold, holds_digit_lem}
-use Rattle.puzzle.proofs.EachOnce.{unit_in_range, unit_peers, peers_unit}
-use Rattle.puzzle.proofs.Clear.{clear_holds, clear_free, times_clear, once_clear, unit_by_unit, left_exact}
+use Rattle.puzzle.specs.Puzzle.{is_held, stands_clear, digits_left, keypad}
+use Rattle.puzzle.specs.EachOnce.{Kind, Row, in_unit, times_held, EachOnce}
+use Rattle.puzzle.proofs.Puzzle.{PeerHolds, peers_hold}
+use Rattle.puzzle.proofs.EachOnce.{unit_peers, held_apart}
+use Rattle.puzzle.proofs.Clear.{clear_is, clear_holds, clear_free, times_clear, once_clear, unit_by_unit, left_exact}
 
 module _ (digits : List ℕ) (d : ℕ) (h : d ≡ 0 → ⊥) where
   -- a cell that holds the digit counts where no peer holds it too
   held_clear : (cell : ℕ) → is_cell cell ≡ true → at digits cell ≡ d → (PeerHolds digits d cell → ⊥) → stands_clear digits d cell ≡ true
-  unfolding stands_clear conflicts
   held_clear cell p e apart =
-      both_true _ _ (both_true _ _ (holds_digit_lem digits cell (λ z. h (sym e ∙ z))) (eq-eqb _ d e))
-      (by_test (conflicts digits cell)
-      (λ t. absurd (apart ((peers_hold digits d cell p).0 (ap (λ (x : ℕ). is_held digits x (peers_of cell)) (sym e) ∙ both_right (holds_digit digits cell) _ t))))
-      (λ f. ap not f))
+      clear_is digits d cell h
+      ∙ both_true _ _ (eq-eqb _ d e)
+      (by_test (is_held digits d (peers_of cell)) (λ t. absurd (apart ((peers_hold digits d cell p).0 t))) (λ f. ap not f))
 
   -- a unit whose cells that hold the digit all count
   all_clear : (kind : Kind) (number : ℕ) → ((cell : ℕ) → is_cell cell ≡ true → in_unit kind number cell ≡ true → at digits cell ≡ d → stands_clear digits d cell ≡ true)
@@ -66,19 +63,6 @@ module _ (digits : List ℕ) (d : ℕ) (h : d ≡ 0 → ⊥) where
           (unit_peers k cell q p kind (eqb-true _ number j ∙ sym (eqb-true _ number i)) (λ w. not_both_ways (stands_clear digits d k) t (ap (stands_clear digits d) w ∙ f)))
           t e
 
-  -- where each unit holds the digit once, no two peers do
-  held_apart : ((kind : Kind) (number : ℕ) → in_range number ≡ true → times_held digits kind number d ≡ 1)
-      → (a b : ℕ) → is_cell a ≡ true → is_cell b ≡ true → are_peers a b ≡ true → at digits a ≡ d → at digits b ≡ d → ⊥
-  unfolding times_held in_unit
-  held_apart once a b pa pb w ea eb =
-      let u = peers_unit a b w in
-      peers_differ a b w
-      (count_alone (λ k. both (in_unit u.kind (unit_of u.kind a) k) (eqb (at digits k) d)) 81 1 a b
-      (omega (arith, once u.kind (unit_of u.kind a) (unit_in_range u.kind a pa)))
-      (cell_from a pa) (omega (arith, cell_to a pa)) (cell_from b pb) (omega (arith, cell_to b pb))
-      (both_true _ _ (eq-eqb (unit_of u.kind a) _ refl) (eq-eqb _ d ea))
-      (both_true _ _ (eq-eqb (unit_of u.kind b) _ (sym u.same)) (eq-eqb _ d eb)))
-
   pub grey : (digits_left digits d ≡ 0) ↔ ((kind : Kind) (number : ℕ) → in_range number ≡ true → times_held digits kind number d ≡ 1)
   grey = (
     (λ e kind number p. clear_alone kind number
@@ -89,7 +73,7 @@ module _ (digits : List ℕ) (d : ℕ) (h : d ≡ 0 → ⊥) where
       left_exact digits d,
       unit_by_unit digits d Row,
       total_ones (times_clear digits d Row) 9 1
-          (λ n l u. sym (all_clear Row n (λ cell p i e. held_clear cell p e (λ w. held_apart once cell w.peer p w.is_cell_lem w.are_peers_lem e w.holds))) ∙ once Row n (in_range_lem n l (omega arith))),
+          (λ n l u. sym (all_clear Row n (λ cell p i e. held_clear cell p e (λ w. held_apart digits d once cell w.peer p w.is_cell_lem w.are_peers_lem e w.holds))) ∙ once Row n (in_range_lem n l (omega arith))),
     )),
   )
 

@@ -2,8 +2,7 @@
 // what a setter may pose, conflicts, and when a puzzle is solved.
 #![tactic(auto)]
 
-ghost use Rattle.std.specs.Prelude.{◌≡◌, ℕ, ◌≤◌, ◌-◌, not, eqb, get_or, drop, set};
-ghost use Rattle.sudoku.specs.Tests.{both};
+ghost use Rattle.std.specs.Prelude.{◌≡◌, ◌≤◌, ◌-◌, get_or, drop, set};
 ghost use Rattle.sudoku.specs.Grid.{at};
 ghost use Rattle.puzzle.specs.Puzzle.{is_held, holds_digit, conflicts as conflicts_at, is_full, is_consistent, settled as settled_by, stands_clear, clear_cells, digits_left, keypad as keypad_of};
 
@@ -156,7 +155,7 @@ fn stands_clear(digits: &[u8; 81], digit: u8, cell: usize) -> bool
 }
 
 // How many cells hold the digit and conflict with no peer: never more than nine, since no two of them share a row.
-// A loop, since `filter` and `count` give a usize where nine less it is wanted as a byte.
+// A loop, since `filter` with `count` gives a usize, and a byte is wanted.
 #[tactic(auto, using(crate::proofs::Clear::at_most_nine, sudoku::proofs::Walks::count_all), unfolding(crate::specs::Puzzle::clear_cells))]
 fn clear_cells(digits: &[u8; 81], digit: u8) -> u8
     ensures { (result ≡ clear_cells digits.now digit) × (result ≤ 9) }
@@ -178,18 +177,6 @@ pub fn digits_left(digits: &[u8; 81], digit: u8) -> u8
     SIDE - clear_cells(digits, digit)
 }
 
-// The digit of a cell that conflicts with no peer; 0 where it conflicts, as where the cell holds none.
-#[tactic(auto, unfolding(crate::specs::Puzzle::stands_clear, crate::specs::Puzzle::holds_digit, sudoku::specs::Tests::both))]
-fn clear_digit(digits: &[u8; 81], cell: usize) -> u8
-    ensures { (digit : ℕ) → stands_clear digits.now digit cell ≡ both (not (eqb digit 0)) (eqb result digit) }
-{
-    if conflicts(digits, cell) {
-        0
-    } else {
-        digit_at(digits, cell)
-    }
-}
-
 // The keypad whole: digits left for each of the keys 1 to 9. In one pass: nine walks take a third longer.
 #[tactic(auto, using(sudoku::proofs::Grid::range_from, sudoku::proofs::Grid::range_to, crate::proofs::Keys::ahead_done))]
 pub fn keypad(digits: &[u8; 81]) -> [u8; 9]
@@ -197,8 +184,8 @@ pub fn keypad(digits: &[u8; 81]) -> [u8; 9]
 {
     let mut left = [SIDE; 9];
     for cell in 1..=CELLS {
-        let digit = clear_digit(digits, cell);
-        if in_range(digit) {
+        let digit = digit_at(digits, cell);
+        if in_range(digit) && stands_clear(digits, digit, cell) {
             left[usize::from(digit) - 1] -= 1;
         }
     }

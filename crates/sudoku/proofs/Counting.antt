@@ -4,13 +4,13 @@
 -- other way round. Sums of parts of at most 1 are full exactly where each part is 1.
 -- Assumes nothing.
 use Prim.Native.Nat.{ℕ, zero, suc, ◌+◌, ◌≤◌, ◌<◌}
-use mathlib.Core.Path.{◌≡◌, refl, sym, ap, subst}
+use mathlib.Core.Path.{◌≡◌, refl, sym, ap, subst, ◌∙◌}
 use mathlib.Core.Bool.{Bool, true, false}
 use native.Mathlib.Omega.{arith}
 use borrow.Author.Tests.{leb-true, leb-false, eq-eqb, ne_eqb}
 use lib.Dec.{leb, eqb}
 use Rattle.sudoku.specs.Tests.{both, bit, count}
-use Rattle.sudoku.proofs.Walks.{by_test, from_here, both_second, both_false_right, count_some}
+use Rattle.sudoku.proofs.Walks.{by_test, from_here, both_second, both_false_right, both_comm, count_some}
 
 -- ---- a test that none, or one, of the numbers passes
 
@@ -90,6 +90,20 @@ ones_total g (suc n) i k h e l u =
 
 -- ---- value by value
 
+-- a count is the sum of what each number adds
+count_total : (f : ℕ → Bool) (n i : ℕ) → count f n i ≡ total (λ k. bit (f k)) n i
+unfolding count total
+count_total f zero i = refl
+count_total f (suc n) i = ap (λ (m : ℕ). bit (f i) + m) (count_total f n (suc i))
+
+-- two counts together, where they add up number by number
+pub count_pairs : (f g f' g' : ℕ → Bool) (n i : ℕ) → ((k : ℕ) → i ≤ k → k < i + n → bit (f k) + bit (g k) ≡ bit (f' k) + bit (g' k))
+    → count f n i + count g n i ≡ count f' n i + count g' n i
+unfolding count
+count_pairs f g f' g' zero i h = refl
+count_pairs f g f' g' (suc n) i h =
+    omega (arith, h i (omega arith) (omega arith), count_pairs f g f' g' n (suc i) (λ k l u. h k (omega arith) (omega arith)))
+
 -- one number is counted at its value x, and at no other
 value_once : (t : Bool) (x n i : ℕ) → i ≤ x → x < i + n → total (λ d. bit (both t (eqb x d))) n i ≡ bit t
 unfolding total bit
@@ -109,6 +123,13 @@ value_once t x (suc n) i l u =
   where
     here : i ≡ x → both t (eqb x i) ≡ t
     here e = both_second t (eqb x i) (eq-eqb x i (sym e))
+
+-- so of the numbers from i on x alone counts, where the test holds
+pub count_value : (t : Bool) (x n i : ℕ) → i ≤ x → x < i + n → count (λ k. both (eqb x k) t) n i ≡ bit t
+count_value t x n i l u =
+    (λ j. count (λ k. both_comm (eqb x k) t j) n i)
+    ∙ count_total (λ k. both t (eqb x k)) n i
+    ∙ value_once t x n i l u
 
 -- the numbers that pass u are counted value by value, where each value is below m
 pub count_by_value : (u : ℕ → Bool) (v : ℕ → ℕ) (m n i : ℕ) → ((k : ℕ) → i ≤ k → k < i + n → v k < m)
