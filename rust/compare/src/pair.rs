@@ -387,7 +387,9 @@ impl Pair {
     fn compare_keypad(&self, counts: &mut Counts) -> Compared {
         counts.questions += 1;
         let expected = KeypadAnswer { refusal: ACCEPTED, left: self.state.keypad() };
-        same("the keypad", &expected, &sys::keypad(&self.ours.board))
+        let mut answer = sys::keypad(&self.ours.board);
+        answer.left = self.ours.plant.keypad(&self.ours.board, answer.left);
+        same("the keypad", &expected, &answer)
     }
 
     fn compare_notes(&self, counts: &mut Counts) -> Compared {

@@ -55,11 +55,13 @@ pub enum Plant {
     PlayersDigitInLine,
     /// A key counts cells that conflict.
     ClashesCount,
+    /// The whole keypad counts them.
+    ClashesCountOnKeypad,
 }
 
 impl Plant {
     /// All errors, by name.
-    pub const ALL: [(&'static str, Self); 21] = [
+    pub const ALL: [(&'static str, Self); 22] = [
         ("own-note-cleared", Self::OwnNoteCleared),
         ("filled-peers-keep-marks", Self::FilledPeersKeepMarks),
         ("undo-marks-all-peers", Self::UndoMarksAllPeers),
@@ -81,6 +83,7 @@ impl Plant {
         ("character-from-zero", Self::CharacterFromZero),
         ("players-digit-in-line", Self::PlayersDigitInLine),
         ("clashes-count", Self::ClashesCount),
+        ("clashes-count-on-keypad", Self::ClashesCountOnKeypad),
     ];
 
     /// The error of this name.
@@ -193,11 +196,13 @@ impl Plant {
 
     /// What becomes of the digits left for a key.
     pub fn left(self, board: &Board, digit: u8, left: u8) -> u8 {
-        if self == Self::ClashesCount && (1..=9).contains(&digit) {
-            let held = board.digits.iter().filter(|&&held| held == digit).count();
-            return u8::try_from(9_usize.saturating_sub(held)).unwrap_or(0);
-        }
-        left
+        if self == Self::ClashesCount && (1..=9).contains(&digit) { not_held(board, digit) } else { left }
+    }
+
+    /// What becomes of the whole keypad.
+    pub fn keypad(self, board: &Board, left: [u8; 9]) -> [u8; 9] {
+        let wrong = self == Self::ClashesCountOnKeypad;
+        if wrong { std::array::from_fn(|at| not_held(board, at as u8 + 1)) } else { left }
     }
 
     /// What becomes of a line that is written, none of it where that was refused.
@@ -208,6 +213,12 @@ impl Plant {
             }
         }
     }
+}
+
+/// Nine less the cells that hold the digit, never below 0: the keypad before document 02.
+fn not_held(board: &Board, digit: u8) -> u8 {
+    let held = board.digits.iter().filter(|&&held| held == digit).count();
+    u8::try_from(9_usize.saturating_sub(held)).unwrap_or(0)
 }
 
 fn slot(ours: &Ours, move_number: usize) -> [u8; 8] {
