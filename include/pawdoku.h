@@ -36,10 +36,10 @@ extern "C" {
  * but a comment changes, and stands here once.
  *
  * pawdoku_version() is the version of the library that is linked. It need not be asked: the library defines one
- * function with its version in the name, pawdoku_abi_3, and this header refers to the one of its own version, below.
+ * function with its version in the name, pawdoku_abi_4, and this header refers to the one of its own version, below.
  * So an object compiled for another version is refused by the linker, which names the function that is missing. That
  * costs the address of a function in each object, and no instruction. */
-#define PAWDOKU_VERSION 3
+#define PAWDOKU_VERSION 4
 
 #define PAWDOKU_JOIN_(a, b) a##b
 #define PAWDOKU_JOIN(a, b) PAWDOKU_JOIN_(a, b)
@@ -76,7 +76,8 @@ enum {
     PAWDOKU_LINE_GIVENS = 243              /* room for the givens of a line: PAWDOKU_GIVEN_BYTES * PAWDOKU_CELLS */
 };
 
-/* The kind of a move: the first byte of a slot and of a move in a record, and in a reading. */
+/* The kind of a move: the first byte of a slot and of a move in a record, and in a reading. A mark that the pencil
+ * wrote and one that it struck are two kinds. */
 enum {
     PAWDOKU_PLACE = 2,
     PAWDOKU_ERASE = 3,
@@ -91,15 +92,15 @@ enum {
     PAWDOKU_RECORD_CHECK = 7
 };
 
-/* The first byte of an encoded call of pawdoku_play: which call it is. */
+/* The first byte of an encoded call of pawdoku_play: which call it is. None is the kind of a move, nor will one be: a
+ * list of kinds, or of the calls of versions 1 to 3, encodes no call and does nothing. */
 enum {
-    PAWDOKU_CALL_PLACE = 2,
-    PAWDOKU_CALL_ERASE = 3,
-    PAWDOKU_CALL_WRITE_MARK = 4,
-    PAWDOKU_CALL_STRIKE_MARK = 5,
-    PAWDOKU_CALL_UNDO = 6,
-    PAWDOKU_CALL_CHECK = 7,
-    PAWDOKU_CALL_REDO = 8
+    PAWDOKU_CALL_PLACE = 16,
+    PAWDOKU_CALL_ERASE = 17,
+    PAWDOKU_CALL_PENCIL = 18,
+    PAWDOKU_CALL_UNDO = 19,
+    PAWDOKU_CALL_REDO = 20,
+    PAWDOKU_CALL_CHECK = 21
 };
 
 /* Why a call is refused. `place` and `inner` are 0 where nothing is said of them. */
@@ -117,7 +118,7 @@ enum {
     PAWDOKU_MARKS_NOT_ACCEPTED = 7,        /* the cell holds a digit */
     PAWDOKU_DIGIT_OUT_OF_RANGE = 8,
     PAWDOKU_DIGIT_ALREADY_STANDS = 9,
-    PAWDOKU_MARK_ALREADY_WRITTEN = 10,
+    PAWDOKU_MARK_ALREADY_WRITTEN = 10,     /* this and the next: `inner` of PAWDOKU_MOVE_REFUSED, no call's number */
     PAWDOKU_MARK_NOT_THERE = 11,
     PAWDOKU_NOTHING_TO_UNDO = 12,
     PAWDOKU_NOTHING_TO_REDO = 13,
@@ -137,7 +138,9 @@ enum {
     PAWDOKU_GIVEN_OFF_GRID = 26,           /* place: the given, counted from 1 */
     PAWDOKU_GIVEN_MISMATCH = 27,           /* place: the given, counted from 1 */
     PAWDOKU_MOVE_AFTER_SOLVED = 28,        /* place: the move */
-    PAWDOKU_MOVE_REFUSED = 29,             /* place: the move; inner: 3 or 5 to 11 */
+    PAWDOKU_MOVE_REFUSED = 29,             /* place: the move; inner: 3 or 5 to 11. A record's marks are moves of two
+                                            * kinds: PAWDOKU_WRITE_MARK is refused where the mark is present (10),
+                                            * PAWDOKU_STRIKE_MARK where it is absent, or its digit none (11) */
     PAWDOKU_UNDONE_WHEN_SOLVED = 30,
     PAWDOKU_CHECK_REFUSED = 31,            /* place: the check; inner: 3, 5 or 8 */
     PAWDOKU_CHECK_AFTER_NO_MOVE = 32,      /* place: the check */
@@ -266,12 +269,12 @@ pawdoku_answer pawdoku_place(pawdoku_board board, uint8_t *journal, size_t journ
 /* Empties the cell and touches no note. Refused by 1 to 4, 6, 15. */
 pawdoku_answer pawdoku_erase(pawdoku_board board, uint8_t *journal, size_t journal_length,
                              uint8_t row, uint8_t column);
-/* Refused by 1 to 4, 7, 8, 10, 15. */
-pawdoku_answer pawdoku_write_mark(pawdoku_board board, uint8_t *journal, size_t journal_length,
-                                  uint8_t row, uint8_t column, uint8_t digit);
-/* Refused by 1 to 4, 7, 11, 15. */
-pawdoku_answer pawdoku_strike_mark(pawdoku_board board, uint8_t *journal, size_t journal_length,
-                                   uint8_t row, uint8_t column, uint8_t digit);
+/* The pencil key: strikes the mark where it is present, writes it where it is absent. No caller needs to know which.
+ * Nor does the library know a second press from a first: a call on the board that the first one answered turns the mark
+ * round again, and is a move of its own. So a key that bounces is to be held back by the host. A call whose answer was
+ * lost is made again on the board that was passed, and answers the same. Refused by 1 to 4, 7, 8, 15. */
+pawdoku_answer pawdoku_pencil(pawdoku_board board, uint8_t *journal, size_t journal_length,
+                              uint8_t row, uint8_t column, uint8_t digit);
 
 /* Takes the latest standing move back: the digit before, and exactly the marks that were struck. Writes no slot.
  * Refused by 1, 2, 4, 12, 14. */
@@ -350,7 +353,9 @@ pawdoku_keypad_answer pawdoku_keypad(pawdoku_board board);
  * first of these that applies: PAWDOKU_NO_CALL where its first byte encodes no call, which changes nothing and looks
  * at nothing else; 1 where the memory that this call is lent (the check memory for a check, the journal for any other)
  * has another length, whatever the other memory is; 2 where the board is none; then the call's other numbers, lowest
- * first. The list itself is never refused: the answer's refusal is 0, its board is what the last call left. */
+ * first. The list itself is never refused: the answer's refusal is 0, its board is what the last call left. Go on with
+ * that board, and run no list again on the one that was passed: moves made behind an undo lie over slots that it still
+ * counts. */
 pawdoku_answer pawdoku_play(pawdoku_board board, uint8_t *journal, size_t journal_length,
                             uint8_t *checks, size_t checks_length,
                             const uint8_t *calls, size_t calls_length,

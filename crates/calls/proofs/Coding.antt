@@ -5,15 +5,17 @@ use mathlib.Core.Path.{◌≡◌, refl, sym, ap, ◌∙◌}
 use mathlib.Core.List.{List, [], ◌∷◌, ◌++◌, map}
 use native.Mathlib.Omega.{arith}
 use lib.ListN.{length, get_or, length-map}
-use Rattle.std.specs.Prelude.{Option, Some}
+use borrow.Author.Tests.{ne_eqb}
+use Rattle.std.specs.Prelude.{Option, Some, None}
 use Rattle.sudoku.specs.Tests.{pick, listed}
 use Rattle.sudoku.proofs.Listed.{length_listed}
-use Rattle.journal.specs.declared.Move.TheVariants.{Place, Erase, WriteMark, StrikeMark}
+use Rattle.sudoku.proofs.Walks.{pick_false}
 use Rattle.journal.specs.Bytes.{over}
+use Rattle.play.specs.declared.Play.TheVariants.{Place, Erase, Pencil}
 use Rattle.calls.specs.declared.Call.{Call}
 use Rattle.calls.specs.declared.Call.TheVariants.{Make, Undo, Redo, Check}
 use Rattle.calls.specs.Session.{Session, call_of, after, answers}
-use Rattle.calls.specs.Encoded.{call_bytes, call_place, call_erase, call_write_mark, call_strike_mark, call_undo, call_check, call_redo, decode, decode_other, decode_at, decoded, encode, encoded, groups, run_one, left_by, said_to, answers_bytes, ran, run_from, run_of}
+use Rattle.calls.specs.Encoded.{call_bytes, call_place, call_erase, call_pencil, call_undo, call_redo, call_check, decode, decode_other, decode_at, decoded, encode, encoded, groups, run_one, left_by, said_to, answers_bytes, ran, run_from, run_of}
 
 -- ---- groups that are all calls
 
@@ -75,8 +77,7 @@ four_bytes : (c : Call) → Four c
 unfolding encode
 four_bytes (Make (Place row column digit)) = record { one = call_place; two = row; three = column; four = digit; is = refl }
 four_bytes (Make (Erase row column)) = record { one = call_erase; two = row; three = column; four = 0; is = refl }
-four_bytes (Make (WriteMark row column digit)) = record { one = call_write_mark; two = row; three = column; four = digit; is = refl }
-four_bytes (Make (StrikeMark row column digit)) = record { one = call_strike_mark; two = row; three = column; four = digit; is = refl }
+four_bytes (Make (Pencil row column digit)) = record { one = call_pencil; two = row; three = column; four = digit; is = refl }
 four_bytes Undo = record { one = call_undo; two = 0; three = 0; four = 0; is = refl }
 four_bytes Redo = record { one = call_redo; two = 0; three = 0; four = 0; is = refl }
 four_bytes (Check row column) = record { one = call_check; two = row; three = column; four = 0; is = refl }
@@ -91,8 +92,7 @@ first_call : (c : Call) (l : List ℕ) → decode_at (encode c ++ l) 0 ≡ Some 
 unfolding decode_at decode decode_other encode pick
 first_call (Make (Place row column digit)) l = refl
 first_call (Make (Erase row column)) l = refl
-first_call (Make (WriteMark row column digit)) l = refl
-first_call (Make (StrikeMark row column digit)) l = refl
+first_call (Make (Pencil row column digit)) l = refl
 first_call Undo l = refl
 first_call Redo l = refl
 first_call (Check row column) l = refl
@@ -104,6 +104,17 @@ all_calls : (cs : List Call) → listed (decode_at (encoded cs)) (length cs) 0 �
 unfolding listed encoded
 all_calls [] = refl
 all_calls (c ∷ cs) = λ i. first_call c (encoded cs) i ∷ (other_calls c (encoded cs) (length cs) ∙ all_calls cs) i
+
+-- a first byte that is no call's encodes none
+pub no_call_decoded : (kind row column digit : ℕ) → ((call : ℕ) → call_place ≤ call → call ≤ call_check → kind ≡ call → ⊥) → decode kind row column digit ≡ None
+unfolding decode decode_other
+no_call_decoded kind row column digit h =
+    pick_false _ _ _ (ne_eqb kind call_place (h call_place (omega arith) (omega arith)))
+    ∙ pick_false _ _ _ (ne_eqb kind call_erase (h call_erase (omega arith) (omega arith)))
+    ∙ pick_false _ _ _ (ne_eqb kind call_pencil (h call_pencil (omega arith) (omega arith)))
+    ∙ pick_false _ _ _ (ne_eqb kind call_undo (h call_undo (omega arith) (omega arith)))
+    ∙ pick_false _ _ _ (ne_eqb kind call_redo (h call_redo (omega arith) (omega arith)))
+    ∙ pick_false _ _ _ (ne_eqb kind call_check (h call_check (omega arith) (omega arith)))
 
 pub decoded_encoded : (cs : List Call) → decoded (encoded cs) ≡ map Some cs
 unfolding decoded

@@ -10,12 +10,12 @@ use native.Mathlib.Omega.{arith}
 use lib.ListN.{length}
 use Rattle.sudoku.specs.Tests.{listed}
 use Rattle.sudoku.proofs.Walks.{left_one}
-use Rattle.journal.specs.declared.Move.{Move}
 use Rattle.journal.specs.Bytes.{over}
 use Rattle.journal.proofs.Memory.{over_nil, over_join}
 use Rattle.board.specs.declared.Board.{Board}
 use Rattle.board.specs.declared.Answer.{Answer}
 use Rattle.board.specs.declared.Checked.{Checked}
+use Rattle.play.specs.declared.Play.{Play}
 use Rattle.play.specs.Play.{play_of, undo_of, redo_of}
 use Rattle.play.specs.Check.{check_of}
 use Rattle.calls.specs.declared.Call.TheVariants.{Make, Undo, Redo, Check}
@@ -26,10 +26,10 @@ use Rattle.calls.specs.Code.Running.{answered_at, run_at}
 -- ---- what a call answers and leaves: nothing else of the session changes
 
 module _ (b : Board) (journal checks : List ℕ) where
-  pub makes : (m : Move) (a : Answer) (after : List ℕ) → (a ≡ (play_of b journal m).answer) × (after ≡ (play_of b journal m).journal)
-      → called a.refusal false a.board after checks ≡ call_of (session b journal checks) (Make m)
+  pub makes : (p : Play) (a : Answer) (after : List ℕ) → (a ≡ (play_of b journal p).answer) × (after ≡ (play_of b journal p).journal)
+      → called a.refusal false a.board after checks ≡ call_of (session b journal checks) (Make p)
   unfolding call_of
-  makes m a after p = λ i. called (p.0 i).refusal false (p.0 i).board (p.1 i) checks
+  makes p a after e = λ i. called (e.0 i).refusal false (e.0 i).board (e.1 i) checks
 
   pub undoes : (a : Answer) → a ≡ undo_of b journal → called a.refusal false a.board journal checks ≡ call_of (session b journal checks) Undo
   unfolding call_of

@@ -10,9 +10,9 @@ use Rattle.std.specs.Prelude.{ℕ, ◌+◌, ◌*◌, ◌/◌, min, Bool, false, 
 use Rattle.sudoku.specs.Tests.{pick, bit, listed}
 use Rattle.puzzle.specs.declared.Refusal.{Refusal}
 use Rattle.puzzle.specs.Refusals.{refusal}
-use Rattle.journal.specs.declared.Move.TheVariants.{Place, Erase, WriteMark, StrikeMark}
 use Rattle.journal.specs.Bytes.{over, low, second}
 use Rattle.board.specs.declared.Board.{Board}
+use Rattle.play.specs.declared.Play.TheVariants.{Place, Erase, Pencil}
 use Rattle.calls.specs.declared.Call.{Call}
 use Rattle.calls.specs.declared.Call.TheVariants.{Make, Undo, Redo, Check}
 use Rattle.calls.specs.Session.{Session, Said, Called, called, call_of}
@@ -21,27 +21,24 @@ use Rattle.calls.specs.Session.{Session, Said, Called, called, call_of}
 abbrev pub call_bytes : ℕ
 call_bytes = 4
 
--- a call's first byte
+-- a call's first byte, apart from every kind of move
 abbrev pub call_place : ℕ
-call_place = 2
+call_place = 16
 
 abbrev pub call_erase : ℕ
-call_erase = 3
+call_erase = 17
 
-abbrev pub call_write_mark : ℕ
-call_write_mark = 4
-
-abbrev pub call_strike_mark : ℕ
-call_strike_mark = 5
+abbrev pub call_pencil : ℕ
+call_pencil = 18
 
 abbrev pub call_undo : ℕ
-call_undo = 6
-
-abbrev pub call_check : ℕ
-call_check = 7
+call_undo = 19
 
 abbrev pub call_redo : ℕ
-call_redo = 8
+call_redo = 20
+
+abbrev pub call_check : ℕ
+call_check = 21
 
 -- the number that answers bytes that encode no call
 abbrev pub no_call : ℕ
@@ -50,15 +47,14 @@ no_call = 255
 -- what four bytes encode: a call that is no move, or nothing
 unfoldable pub decode_other : ℕ → ℕ → ℕ → Option Call
 decode_other kind row column =
-    pick (eqb kind call_undo) (Some Undo) (pick (eqb kind call_check) (Some (Check row column)) (pick (eqb kind call_redo) (Some Redo) None))
+    pick (eqb kind call_undo) (Some Undo) (pick (eqb kind call_redo) (Some Redo) (pick (eqb kind call_check) (Some (Check row column)) None))
 
 -- what four bytes encode
 unfoldable pub decode : ℕ → ℕ → ℕ → ℕ → Option Call
 decode kind row column digit =
     pick (eqb kind call_place) (Some (Make (Place row column digit)))
     (pick (eqb kind call_erase) (Some (Make (Erase row column)))
-    (pick (eqb kind call_write_mark) (Some (Make (WriteMark row column digit)))
-    (pick (eqb kind call_strike_mark) (Some (Make (StrikeMark row column digit))) (decode_other kind row column))))
+    (pick (eqb kind call_pencil) (Some (Make (Pencil row column digit))) (decode_other kind row column)))
 
 -- what group i encodes, counted from 0
 unfoldable pub decode_at : List ℕ → ℕ → Option Call
@@ -73,8 +69,7 @@ decoded bytes = listed (decode_at bytes) (length bytes / call_bytes) 0
 unfoldable pub encode : Call → List ℕ
 encode (Make (Place row column digit)) = call_place ∷ row ∷ column ∷ digit ∷ []
 encode (Make (Erase row column)) = call_erase ∷ row ∷ column ∷ 0 ∷ []
-encode (Make (WriteMark row column digit)) = call_write_mark ∷ row ∷ column ∷ digit ∷ []
-encode (Make (StrikeMark row column digit)) = call_strike_mark ∷ row ∷ column ∷ digit ∷ []
+encode (Make (Pencil row column digit)) = call_pencil ∷ row ∷ column ∷ digit ∷ []
 encode Undo = call_undo ∷ 0 ∷ 0 ∷ 0 ∷ []
 encode Redo = call_redo ∷ 0 ∷ 0 ∷ 0 ∷ []
 encode (Check row column) = call_check ∷ row ∷ column ∷ 0 ∷ []

@@ -31,9 +31,9 @@ called r right b journal checks =
     record { said = record { refusal = r; right = right }; left = record { board = b; journal = journal; checks = checks } }
 
 unfoldable pub call_of : Session → Call → Called
-call_of s (Make m) =
-    let p = play_of s.board s.journal m in
-    called p.answer.refusal false p.answer.board p.journal s.checks
+call_of s (Make p) =
+    let x = play_of s.board s.journal p in
+    called x.answer.refusal false x.answer.board x.journal s.checks
 call_of s Undo =
     let a = undo_of s.board s.journal in
     called a.refusal false a.board s.journal s.checks

@@ -3,10 +3,9 @@ ghost use Rattle.std.specs.Prelude.{◌≡◌, ◌/◌, ◌≤◌};
 ghost use Rattle.calls.specs.Encoded.{call_bytes, decode as decode_of, groups as groups_of};
 
 use crate::{
-    CALL_BYTES, CALL_CHECK, CALL_ERASE, CALL_PLACE, CALL_REDO, CALL_STRIKE_MARK, CALL_UNDO,
-    CALL_WRITE_MARK, Call,
+    CALL_BYTES, CALL_CHECK, CALL_ERASE, CALL_PENCIL, CALL_PLACE, CALL_REDO, CALL_UNDO, Call,
 };
-use journal::Move;
+use play::Play;
 
 // What four bytes encode; nothing where the first is that of no call.
 #[tactic(auto, unfolding(crate::specs::Encoded::decode, crate::specs::Encoded::decode_other, sudoku::specs::Tests::pick))]
@@ -14,13 +13,12 @@ pub fn decode(kind: u8, row: u8, column: u8, digit: u8) -> Option<Call>
     ensures { result ≡ decode_of kind row column digit }
 {
     match kind {
-        CALL_PLACE => Some(Call::Make(Move::Place { row, column, digit })),
-        CALL_ERASE => Some(Call::Make(Move::Erase { row, column })),
-        CALL_WRITE_MARK => Some(Call::Make(Move::WriteMark { row, column, digit })),
-        CALL_STRIKE_MARK => Some(Call::Make(Move::StrikeMark { row, column, digit })),
+        CALL_PLACE => Some(Call::Make(Play::Place { row, column, digit })),
+        CALL_ERASE => Some(Call::Make(Play::Erase { row, column })),
+        CALL_PENCIL => Some(Call::Make(Play::Pencil { row, column, digit })),
         CALL_UNDO => Some(Call::Undo),
-        CALL_CHECK => Some(Call::Check { row, column }),
         CALL_REDO => Some(Call::Redo),
+        CALL_CHECK => Some(Call::Check { row, column }),
         _ => None,
     }
 }

@@ -59,4 +59,4 @@ peer_cells cell = record { cells = peers_of cell }
 
 -- which version of names, layouts and numbers the library has
 abbrev pub version : ℕ
-version = 3
+version = 4

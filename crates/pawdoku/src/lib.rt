@@ -1,6 +1,6 @@
 // The library for hosts: every call of the board under the name that it has in include/pawdoku.h. Crate pawdoku_c
 // exports them to C. A board goes in and comes back by value; memory is lent. Names, and parameters one by one, are
-// C's: so the calls of one shape, as the four moves, stay apart, and so do position, digit and memory.
+// C's: so the calls of one shape, as the three that make a move, stay apart, and so do position, digit and memory.
 #![tactic(auto)]
 
 use puzzle::Refusal;

@@ -1,6 +1,6 @@
 // An encoded list of calls, run: each call in its turn, on the board and memory that the last one left.
 // A list is a chain of the calls that a host makes, each handed what the last returned: undo, redo and check by the
-// functions of crate pawdoku, a move by the function that its four hand it to (docs/DECISIONS.md, 31).
+// functions of crate pawdoku, a move by the function that its three hand it to (docs/DECISIONS.md, 31).
 ghost use Rattle.std.specs.Prelude.{◌≡◌, false as no, ◌/◌, ◌<◌, length};
 ghost use Rattle.puzzle.specs.Refusals.{accepted as accepted_of};
 ghost use Rattle.calls.specs.Encoded.{call_bytes, said, decode_at, answer_bytes, session, ran, run_one, run_of};
@@ -56,7 +56,7 @@ fn one_call(
     ensures answer_after { answer.new ≡ answer_bytes (run_one (session board journal.old checks.old) asked).said }
 {
     match asked {
-        Some(Call::Make(m)) => answered(play::moves::play(board, journal, m), answer),
+        Some(Call::Make(p)) => answered(play::moves::play(board, journal, p), answer),
         Some(Call::Undo) => answered(pawdoku_undo(board, journal), answer),
         Some(Call::Redo) => answered(pawdoku_redo(board, journal), answer),
         Some(Call::Check { row, column }) => {

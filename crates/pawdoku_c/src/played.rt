@@ -1,6 +1,6 @@
 // The play calls, one at a time.
 ghost use Rattle.std.specs.Prelude.{◌≡◌};
-ghost use Rattle.play.specs.Play.{place_of, erase_of, write_mark_of, strike_mark_of, undo_of, redo_of};
+ghost use Rattle.play.specs.Play.{place_of, erase_of, pencil_of, undo_of, redo_of};
 ghost use Rattle.play.specs.Check.{check_of};
 
 use board::{Answer, Board, Checked};
@@ -28,31 +28,17 @@ pub extern "C" fn pawdoku_erase(board: Board, journal: &mut [u8], row: u8, colum
 }
 
 #[unsafe(no_mangle)]
-pub extern "C" fn pawdoku_write_mark(
+pub extern "C" fn pawdoku_pencil(
     board: Board,
     journal: &mut [u8],
     row: u8,
     column: u8,
     digit: u8,
 ) -> Answer
-    ensures value { result ≡ (write_mark_of board journal.old row column digit).answer }
-    ensures journal_after { journal.new ≡ (write_mark_of board journal.old row column digit).journal }
+    ensures value { result ≡ (pencil_of board journal.old row column digit).answer }
+    ensures journal_after { journal.new ≡ (pencil_of board journal.old row column digit).journal }
 {
-    pawdoku::played::pawdoku_write_mark(board, journal, row, column, digit)
-}
-
-#[unsafe(no_mangle)]
-pub extern "C" fn pawdoku_strike_mark(
-    board: Board,
-    journal: &mut [u8],
-    row: u8,
-    column: u8,
-    digit: u8,
-) -> Answer
-    ensures value { result ≡ (strike_mark_of board journal.old row column digit).answer }
-    ensures journal_after { journal.new ≡ (strike_mark_of board journal.old row column digit).journal }
-{
-    pawdoku::played::pawdoku_strike_mark(board, journal, row, column, digit)
+    pawdoku::played::pawdoku_pencil(board, journal, row, column, digit)
 }
 
 #[unsafe(no_mangle)]

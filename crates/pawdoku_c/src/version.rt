@@ -12,8 +12,8 @@ pub extern "C" fn pawdoku_version() -> u32
 // The header refers to the function that has its own version in the name, and nobody calls it: what was compiled for
 // another version finds no such function, so that a linker refuses it.
 #[unsafe(no_mangle)]
-pub extern "C" fn pawdoku_abi_3() -> u32
+pub extern "C" fn pawdoku_abi_4() -> u32
     ensures { result ≡ version }
 {
-    pawdoku::version::pawdoku_abi_3()
+    pawdoku::version::pawdoku_abi_4()
 }

@@ -13,18 +13,18 @@ use Rattle.sudoku.specs.Tests.{Test, ◌⇒◌, first}
 use Rattle.sudoku.proofs.Walks.{passed, pick_true, pick_false, both_left, both_right}
 use Rattle.puzzle.specs.Refusals.{refusal, accepted, first_refused}
 use Rattle.puzzle.proofs.Refusals.{or_else_by, or_else_passed}
-use Rattle.journal.specs.declared.Move.{Move}
 use Rattle.journal.specs.Limits.{max_moves, max_checks, slot_bytes, journal_bytes, check_bytes, check_memory}
 use Rattle.journal.specs.Bytes.{over}
 use Rattle.journal.specs.StoredChecks.{stored_bytes}
 use Rattle.board.specs.declared.Board.{Board}
 use Rattle.board.specs.Board.{state_of, is_board, lent_tests}
-use Rattle.play.specs.Play.{unsound_slot, journal_refusal, played, move_tests, call_tests, record_move, play_of, slot_refusal}
+use Rattle.play.specs.Play.{unsound_slot, journal_refusal, played, play_tests, move_for, call_tests, record_move, play_of, slot_refusal}
+use Rattle.play.specs.declared.Play.{Play}
 use Rattle.play.specs.declared.sound.Unsound.{Unsound}
 use Rattle.play.specs.declared.sound.Unsound.TheVariants.{Slot, Check}
 use Rattle.play.specs.Unsound.{unsound_refusal}
 use Rattle.play.specs.Check.{checked, check_tests, check_on, with_check, check_of}
-use Rattle.play.proofs.Joined.{moves_numbered, join_last}
+use Rattle.play.proofs.Joined.{plays_numbered, join_last}
 
 -- ---- the counts of a board value that number 2 does not refuse
 
@@ -81,25 +81,25 @@ module _ (fits : Bool) (b : Board) (journal : List ℕ) (n : ℕ) (e : n ≡ fir
   unfolding lent_tests
   lent_counts p = board_counts b (not-false _ (passed _ 1 _ (passed _ 0 _ (sym e ∙ p)).1).0)
 
--- ---- place, erase and the marks
+-- ---- place, erase and the pencil
 
-module _ (b : Board) (journal : List ℕ) (m : Move) (n : ℕ) (e : n ≡ first (call_tests b journal m)) where
-  pub play_refused : (n ≡ 0 → ⊥) → played (refusal n 0 0) b journal ≡ play_of b journal m
+module _ (b : Board) (journal : List ℕ) (p : Play) (n : ℕ) (e : n ≡ first (call_tests b journal p)) where
+  pub play_refused : (n ≡ 0 → ⊥) → played (refusal n 0 0) b journal ≡ play_of b journal p
   unfolding play_of
   play_refused h =
       ap (λ (k : ℕ). played (refusal k 0 0) b journal) e
-      ∙ sym (pick_false (eqb (first (call_tests b journal m)) 0) (record_move b journal m) (played (refusal (first (call_tests b journal m)) 0 0) b journal) (ne_eqb (first (call_tests b journal m)) 0 (λ p. h (e ∙ p))))
+      ∙ sym (pick_false (eqb (first (call_tests b journal p)) 0) (record_move b journal (move_for (state_of b) p)) (played (refusal (first (call_tests b journal p)) 0 0) b journal) (ne_eqb (first (call_tests b journal p)) 0 (λ z. h (e ∙ z))))
 
-  pub play_made : n ≡ 0 → record_move b journal m ≡ play_of b journal m
+  pub play_made : n ≡ 0 → record_move b journal (move_for (state_of b) p) ≡ play_of b journal p
   unfolding play_of
-  play_made p =
-      sym (pick_true (eqb (first (call_tests b journal m)) 0) (record_move b journal m) (played (refusal (first (call_tests b journal m)) 0 0) b journal) (eq-eqb (first (call_tests b journal m)) 0 (sym e ∙ p)))
+  play_made z =
+      sym (pick_true (eqb (first (call_tests b journal p)) 0) (record_move b journal (move_for (state_of b) p)) (played (refusal (first (call_tests b journal p)) 0 0) b journal) (eq-eqb (first (call_tests b journal p)) 0 (sym e ∙ z)))
 
   pub play_room : n ≡ 0 → slot_bytes * b.standing + slot_bytes ≤ length journal
   unfolding call_tests
-  play_room p =
-      let lent : Lent b journal (move_tests (state_of b) m ++ ((eqb b.standing max_moves ⇒ 15) ∷ [])) = lent_passed b journal _ (sym e ∙ p) in
-      let last = join_last (move_tests (state_of b) m) ((eqb b.standing max_moves ⇒ 15) ∷ []) (moves_numbered (state_of b) m) lent.rest in
+  play_room z =
+      let lent : Lent b journal (play_tests (state_of b) p ++ ((eqb b.standing max_moves ⇒ 15) ∷ [])) = lent_passed b journal _ (sym e ∙ z) in
+      let last = join_last (play_tests (state_of b) p) ((eqb b.standing max_moves ⇒ 15) ∷ []) (plays_numbered (state_of b) p) lent.rest in
       let below = eqb-false b.standing max_moves (passed (eqb b.standing max_moves) 14 [] last).0 in
       room below lent.counts lent.bytes
     where

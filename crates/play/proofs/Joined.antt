@@ -6,18 +6,17 @@ use mathlib.Core.Bool.{Bool, true, false}
 use mathlib.Core.List.{List, [], ◌∷◌, ◌++◌}
 use native.Mathlib.Omega.{arith}
 use Rattle.sudoku.specs.Tests.{Test, first, pick}
-use Rattle.journal.specs.declared.Move.{Move}
-use Rattle.journal.specs.declared.Move.TheVariants.{Place, Erase, WriteMark, StrikeMark}
 use Rattle.journal.specs.State.{State}
 use Rattle.board.proofs.Told.{Numbered}
-use Rattle.play.specs.Play.{move_tests}
+use Rattle.play.specs.declared.Play.{Play}
+use Rattle.play.specs.declared.Play.TheVariants as play
+use Rattle.play.specs.Play.{move_tests, play_tests}
 
-pub moves_numbered : (s : State) (m : Move) → Numbered (move_tests s m)
-unfolding move_tests
-moves_numbered s (Place row column digit) = (omega arith, (omega arith, (omega arith, (omega arith, (omega arith, tt)))))
-moves_numbered s (Erase row column) = (omega arith, (omega arith, (omega arith, tt)))
-moves_numbered s (WriteMark row column digit) = (omega arith, (omega arith, (omega arith, (omega arith, (omega arith, tt)))))
-moves_numbered s (StrikeMark row column digit) = (omega arith, (omega arith, (omega arith, (omega arith, tt))))
+pub plays_numbered : (s : State) (p : Play) → Numbered (play_tests s p)
+unfolding play_tests move_tests
+plays_numbered s (play.Place row column digit) = (omega arith, (omega arith, (omega arith, (omega arith, (omega arith, tt)))))
+plays_numbered s (play.Erase row column) = (omega arith, (omega arith, (omega arith, tt)))
+plays_numbered s (play.Pencil row column digit) = (omega arith, (omega arith, (omega arith, (omega arith, tt))))
 
 step_last : (t : Bool) (n x z : ℕ) → 1 ≤ n → pick t n x ≡ 0 → (x ≡ 0 → z ≡ 0) → z ≡ 0
 unfolding pick

@@ -1,5 +1,6 @@
--- The play calls of document 01 (board.rs, error.rs): place, erase,
--- write mark, strike mark, undo, redo; and the latest and the next move.
+-- The play calls of document 01 (board.rs, error.rs) with the pencil of document 02, point 3: place, erase, pencil,
+-- undo, redo; and the latest and the next move. Place, erase and pencil ask, and the state decides which of the four
+-- moves that becomes.
 -- Each call's refusals stand as a list of tests in the order of their numbers: the first that holds decides.
 -- A refused call leaves the board and the lent journal as they were.
 -- Assumes nothing.
@@ -23,6 +24,8 @@ use Rattle.board.specs.declared.Board.{Board}
 use Rattle.board.specs.declared.Answer.{Answer}
 use Rattle.board.specs.Board.{state_of, counts_of, moved, lent_tests}
 use Rattle.board.specs.Open.{answer}
+use Rattle.play.specs.declared.Play.{Play}
+use Rattle.play.specs.declared.Play.TheVariants as play
 
 -- what a play call answers, and the lent journal afterwards
 pub record Played : Type 0 where
@@ -32,7 +35,7 @@ pub record Played : Type 0 where
 abbrev pub played : Refusal → Board → List ℕ → Played
 played r b journal = record { answer = answer r b; journal = journal }
 
--- 3 to 11, for each move in its order
+-- 3 to 11, for each move in its order: what replay asks of a record's moves
 unfoldable pub move_tests : State → Move → List Test
 move_tests s (Place row column digit) =
     (not (on_grid row column) ⇒ 3)
@@ -57,10 +60,29 @@ move_tests s (StrikeMark row column digit) =
     ∷ (not (contains (note_at s (cell_of row column)) digit) ⇒ 11)
     ∷ []
 
--- place: 1 2 3 4 5 8 9 15; erase: 1 2 3 4 6 15; write mark: 1 2 3 4 7 8 10 15; strike mark: 1 2 3 4 7 11 15
-unfoldable pub call_tests : Board → List ℕ → Move → List Test
-call_tests b journal m =
-    lent_tests (eqb (length journal) journal_bytes) b (move_tests (state_of b) m ++ ((eqb b.standing max_moves ⇒ 15) ∷ []))
+-- the move that a call makes: the pencil strikes a mark that is present and writes one that is absent.
+-- For a position off the grid that is looked up in cell 1, which changes nothing: 3 comes first
+unfoldable pub move_for : State → Play → Move
+move_for s (play.Place row column digit) = Place row column digit
+move_for s (play.Erase row column) = Erase row column
+move_for s (play.Pencil row column digit) =
+    pick (contains (note_at s (cell_of row column)) digit) (StrikeMark row column digit) (WriteMark row column digit)
+
+-- 3 to 9, for each call in its order: place and erase are asked what their moves are, the pencil 3 4 7 8
+unfoldable pub play_tests : State → Play → List Test
+play_tests s (play.Place row column digit) = move_tests s (Place row column digit)
+play_tests s (play.Erase row column) = move_tests s (Erase row column)
+play_tests s (play.Pencil row column digit) =
+    (not (on_grid row column) ⇒ 3)
+    ∷ (is_on s.solved ⇒ 4)
+    ∷ (not (accepts_marks s (cell_of row column)) ⇒ 7)
+    ∷ (not (in_range digit) ⇒ 8)
+    ∷ []
+
+-- place: 1 2 3 4 5 8 9 15; erase: 1 2 3 4 6 15; pencil: 1 2 3 4 7 8 15
+unfoldable pub call_tests : Board → List ℕ → Play → List Test
+call_tests b journal p =
+    lent_tests (eqb (length journal) journal_bytes) b (play_tests (state_of b) p ++ ((eqb b.standing max_moves ⇒ 15) ∷ []))
 
 -- a move performed and recorded: its one slot is written at the standing count, everything else of the journal stays
 unfoldable pub record_move : Board → List ℕ → Move → Played
@@ -68,22 +90,19 @@ record_move b journal m =
     played accepted (moved b (perform (state_of b) m) (recorded (counts_of b)))
     (over journal (slot_bytes * b.standing) (bytes_of (slot_for (state_of b) m)))
 
-unfoldable pub play_of : Board → List ℕ → Move → Played
-play_of b journal m =
-    let n = first (call_tests b journal m) in
-    pick (eqb n 0) (record_move b journal m) (played (refusal n 0 0) b journal)
+unfoldable pub play_of : Board → List ℕ → Play → Played
+play_of b journal p =
+    let n = first (call_tests b journal p) in
+    pick (eqb n 0) (record_move b journal (move_for (state_of b) p)) (played (refusal n 0 0) b journal)
 
 unfoldable pub place_of : Board → List ℕ → ℕ → ℕ → ℕ → Played
-place_of b journal row column digit = play_of b journal (Place row column digit)
+place_of b journal row column digit = play_of b journal (play.Place row column digit)
 
 unfoldable pub erase_of : Board → List ℕ → ℕ → ℕ → Played
-erase_of b journal row column = play_of b journal (Erase row column)
+erase_of b journal row column = play_of b journal (play.Erase row column)
 
-unfoldable pub write_mark_of : Board → List ℕ → ℕ → ℕ → ℕ → Played
-write_mark_of b journal row column digit = play_of b journal (WriteMark row column digit)
-
-unfoldable pub strike_mark_of : Board → List ℕ → ℕ → ℕ → ℕ → Played
-strike_mark_of b journal row column digit = play_of b journal (StrikeMark row column digit)
+unfoldable pub pencil_of : Board → List ℕ → ℕ → ℕ → ℕ → Played
+pencil_of b journal row column digit = play_of b journal (play.Pencil row column digit)
 
 -- a refusal by number alone, but for 14, whose place is the slot's number
 unfoldable pub slot_refusal : ℕ → ℕ → Refusal

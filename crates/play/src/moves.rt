@@ -1,4 +1,5 @@
-// The four moves: what each one does to the board, what it displaces, and how it is recorded.
+// The four moves: which of them a call makes, what each one does to the board, what it displaces, and how it is
+// recorded.
 ghost use Rattle.std.specs.Prelude.{◌*◌, ◌≡◌};
 ghost use Rattle.journal.specs.Kinds.{kind_byte};
 ghost use Rattle.journal.specs.State.{put_digit, perform as perform_of};
@@ -7,13 +8,15 @@ ghost use Rattle.journal.specs.Limits.{slot_bytes};
 ghost use Rattle.journal.specs.Code.Laid.{laid};
 ghost use Rattle.journal.specs.Slots.{slot_for, plain_slot, bytes_of};
 ghost use Rattle.board.specs.Board.{state_of, counts_of, moved};
-ghost use Rattle.play.specs.Play.{play_of};
+ghost use Rattle.play.specs.Play.{move_for, play_of};
 
+use crate::Play;
 use crate::tests::call_test;
 use board::{Answer, Board};
-use journal::notes::{Strike, Write, change_in, holders, strike_all_in};
+use journal::notes::{Strike, Write, change_in, holders, note_at, strike_all_in};
 use journal::slots::write_slot;
 use journal::{Move, MoveKind, Slot};
+use note::contains;
 use puzzle::answer::accepted;
 use puzzle::{digit_at, put_at, settled};
 use sudoku::{cell_of, peers};
@@ -114,18 +117,37 @@ pub fn make(board: &mut Board, journal: &mut [u8], m: Move)
     board.set_counts(counts);
 }
 
-// A call that makes a move. Refused by the numbers of the move, and by 1 2 15.
-pub fn play(board: Board, journal: &mut [u8], m: Move) -> Answer
-    ensures { (result ≡ (play_of board journal.old m).answer) × (journal.new ≡ (play_of board journal.old m).journal) }
+// The move that a call makes on this board: the pencil strikes a mark that is present and writes one that is absent.
+#[tactic(auto, unfolding(crate::specs::Play::move_for, board::specs::Board::state_of, journal::specs::State::note_at, sudoku::specs::Tests::pick))]
+fn move_for(board: &Board, p: Play) -> Move
+    ensures { result ≡ move_for (state_of board.now) p }
+{
+    match p {
+        Play::Place { row, column, digit } => Move::Place { row, column, digit },
+        Play::Erase { row, column } => Move::Erase { row, column },
+        Play::Pencil { row, column, digit } => {
+            if contains(note_at(&board.notes, cell_of(row, column)), digit) {
+                Move::StrikeMark { row, column, digit }
+            } else {
+                Move::WriteMark { row, column, digit }
+            }
+        }
+    }
+}
+
+// A call that makes a move. Refused by its own numbers, 3 to 9, and by 1 2 15.
+pub fn play(board: Board, journal: &mut [u8], p: Play) -> Answer
+    ensures { (result ≡ (play_of board journal.old p).answer) × (journal.new ≡ (play_of board journal.old p).journal) }
 {
     let mut answer = Answer {
         refusal: accepted(),
         board,
     };
-    if let Err(e) = call_test(board, &answer.board, journal, m) {
+    if let Err(e) = call_test(board, &answer.board, journal, p) {
         answer.refusal = e.into();
         return answer;
     }
+    let m = move_for(&answer.board, p);
     make(&mut answer.board, journal, m);
     answer
 }

@@ -1,6 +1,6 @@
 // Why a move is refused: 3 to 11, tested in their order, and the tests of the whole call. Row and column go to a test
-// as the move has them: a position has no type of its own, since any two bytes are one.
-#![tactic(auto, unfolding(sudoku::specs::Tests::first, sudoku::specs::Tests::pick, sudoku::specs::Tests::both, board::specs::Board::state_of, journal::specs::State::digit_at, journal::specs::State::note_at, journal::specs::State::holds_players_digit, journal::specs::State::accepts_marks, crate::specs::Play::move_tests))]
+// as the call has them: a position has no type of its own, since any two bytes are one.
+#![tactic(auto, unfolding(sudoku::specs::Tests::first, sudoku::specs::Tests::pick, sudoku::specs::Tests::both, board::specs::Board::state_of, journal::specs::State::digit_at, journal::specs::State::note_at, journal::specs::State::holds_players_digit, journal::specs::State::accepts_marks, crate::specs::Play::move_tests, crate::specs::Play::play_tests))]
 
 ghost use Rattle.std.specs.Prelude.{◌≡◌, not, [], ◌∷◌};
 ghost use Rattle.puzzle.specs.Givens.{is_on};
@@ -9,8 +9,10 @@ ghost use Rattle.sudoku.specs.Grid.{on_grid};
 ghost use Rattle.journal.specs.declared.Move.TheVariants.{Place, Erase, WriteMark, StrikeMark};
 ghost use Rattle.board.specs.Board.{state_of};
 ghost use Rattle.board.specs.Errors.{number_told};
-ghost use Rattle.play.specs.Play.{move_tests, call_tests};
+ghost use Rattle.play.specs.declared.Play.TheVariants.{Pencil};
+ghost use Rattle.play.specs.Play.{move_tests, play_tests, call_tests};
 
+use crate::Play;
 use board::Board;
 use board::cell::holds_players_digit;
 use board::error::PlayError;
@@ -64,19 +66,26 @@ fn erase_test(board: &Board, row: u8, column: u8) -> Result<(), PlayError>
     Ok(())
 }
 
-// 3 4 7 8 10.
-fn write_mark_test(board: &Board, row: u8, column: u8, mark: u8) -> Result<(), PlayError>
-    ensures { number_told result ≡ first (move_tests (state_of board.now) (WriteMark row column mark)) }
+// 3 4 7 8: asked of the pencil, and before 10 of a mark that a record writes.
+fn pencil_test(board: &Board, row: u8, column: u8, mark: u8) -> Result<(), PlayError>
+    ensures { number_told result ≡ first (play_tests (state_of board.now) (Pencil row column mark)) }
 {
     cell_test(board, row, column)?;
-    let cell = cell_of(row, column);
-    if holds_digit(&board.digits, cell) {
+    if holds_digit(&board.digits, cell_of(row, column)) {
         return Err(PlayError::MarksNotAccepted);
     }
     if !in_range(mark) {
         return Err(PlayError::DigitOutOfRange);
     }
-    if contains(note_at(&board.notes, cell), mark) {
+    Ok(())
+}
+
+// 3 4 7 8 10.
+fn write_mark_test(board: &Board, row: u8, column: u8, mark: u8) -> Result<(), PlayError>
+    ensures { number_told result ≡ first (move_tests (state_of board.now) (WriteMark row column mark)) }
+{
+    pencil_test(board, row, column, mark)?;
+    if contains(note_at(&board.notes, cell_of(row, column)), mark) {
         return Err(PlayError::MarkAlreadyWritten);
     }
     Ok(())
@@ -97,7 +106,7 @@ fn strike_mark_test(board: &Board, row: u8, column: u8, mark: u8) -> Result<(), 
     Ok(())
 }
 
-// Why a move is refused: 3 to 11.
+// Why a record's move is refused: 3 to 11.
 pub fn move_test(board: &Board, m: Move) -> Result<(), PlayError>
     ensures { number_told result ≡ first (move_tests (state_of board.now) m) }
 {
@@ -109,19 +118,30 @@ pub fn move_test(board: &Board, m: Move) -> Result<(), PlayError>
     }
 }
 
-// A call that makes a move: 1 and 2, those of the move, 15. Number 2 reads the whole board, and so the one that came;
-// the move is asked of its copy in the answer. A board by value that is lent would be copied once more.
+// Why a call is refused: 3 to 9.
+fn play_test(board: &Board, p: Play) -> Result<(), PlayError>
+    ensures { number_told result ≡ first (play_tests (state_of board.now) p) }
+{
+    match p {
+        Play::Place { row, column, digit } => place_test(board, row, column, digit),
+        Play::Erase { row, column } => erase_test(board, row, column),
+        Play::Pencil { row, column, digit } => pencil_test(board, row, column, digit),
+    }
+}
+
+// A call that makes a move: 1 and 2, its own, 15. Number 2 reads the whole board, and so the one that came; the call is
+// asked of its copy in the answer. A board by value that is lent would be copied once more.
 pub(crate) fn call_test(
     board: Board,
     copy: &Board,
     journal: &[u8],
-    m: Move,
+    p: Play,
 ) -> Result<(), PlayError>
     requires { copy.now ≡ board }
-    ensures { number_told result ≡ first (call_tests board journal.now m) }
+    ensures { number_told result ≡ first (call_tests board journal.now p) }
 {
     lent(board, journal.len() == JOURNAL_BYTES)?;
-    move_test(copy, m)?;
+    play_test(copy, p)?;
     if board.standing == MAX_MOVES {
         return Err(PlayError::JournalFull);
     }

@@ -13,7 +13,7 @@ use Rattle.play.proofs.moves.play.Goals as goal
 pub returns-in-Err : goal.returns-in-Err
 returns-in-Err c =
     let a = c.args in
-    let p = play_refused a.board a.journal.now a.m _ c.in-Err.ensures (λ n. omega (arith, has_number c.in-Err.e, n)) in
+    let p = play_refused a.board a.journal.now a.p _ c.in-Err.ensures (λ n. omega (arith, has_number c.in-Err.e, n)) in
     (rw c.into-answer.ensures (ap (λ (x : Played). x.answer) p), ap (λ (x : Played). x.journal) p)
 
 pub returns : goal.returns
@@ -21,8 +21,8 @@ unfolding record_move bytes_of
 returns c =
     let a = c.args in
     let n = c.in_default.ensures in
-    let p = play_made a.board a.journal.now a.m _ n refl in
-    let room = play_room a.board a.journal.now a.m _ n refl in (
-      rw (c.accepted.ensures, c.make.ensures.0) (ap (λ (x : Played). x.answer) p),
-      c.make.ensures.1 ∙ laid_over _ _ _ room ∙ ap (λ (x : Played). x.journal) p,
+    let p = play_made a.board a.journal.now a.p _ n refl in
+    let room = play_room a.board a.journal.now a.p _ n refl in (
+      rw (c.accepted.ensures, c.make.ensures.0, c.move_for-m.ensures) (ap (λ (x : Played). x.answer) p),
+      rw c.move_for-m.ensures at c.make.ensures.1 ∙ laid_over _ _ _ room ∙ ap (λ (x : Played). x.journal) p,
     )
