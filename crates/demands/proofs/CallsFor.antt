@@ -28,20 +28,20 @@ use Rattle.journal.specs.StoredChecks.{Stored, is_right, judge, judged}
 use Rattle.journal.specs.declared.Asked.{Asked}
 use Rattle.record.proofs.Readable.{InTime}
 use Rattle.calls.specs.declared.Call.{Call}
-use Rattle.calls.specs.declared.Call.TheVariants.{Make, Undo, Check}
+use Rattle.calls.specs.declared.Call.TheVariants.{Undo, Check}
 use Rattle.demands.specs.Book.{Book, new_book, perform_all, step, keep}
 use Rattle.demands.specs.Opens.{Opens}
 use Rattle.demands.proofs.Opening.{opening_fit, opening_free, opening_note}
 use Rattle.demands.proofs.Plays.{Plays}
 use Rattle.demands.proofs.Reached.{on_the_way}
-use Rattle.demands.proofs.Making.{book_of, keep_append, makes_some, undos, asks}
+use Rattle.demands.proofs.Making.{make_all, book_of, keep_append, makes_some, undos, asks}
 use Rattle.demands.proofs.Lines.{line, line_length, Clear, line_plays, line_digit, line_free, line_solved}
 use Rattle.demands.proofs.OneLeft.{solves_one, solves_right}
 use Rattle.demands.proofs.Asks.{Asks}
 
 -- the calls for one check after n + 1 moves: the line up to it, the check, and the line undone
 unfoldable pub line_calls : ℕ → ℕ → ℕ → ℕ → List Call
-line_calls row column digit n = map Make (line row column digit n) ++ (Check row column ∷ replicate (suc n) Undo)
+line_calls row column digit n = make_all (line row column digit n) ++ (Check row column ∷ replicate (suc n) Undo)
 
 unfoldable pub check_calls : List Asked → List Call
 check_calls [] = []
@@ -49,7 +49,7 @@ check_calls (c ∷ cs) = line_calls c.row c.column c.digit (c.standing - 1) ++ c
 
 -- all calls for a record
 unfoldable pub calls_for : List Move → ℕ → List Asked → List Call
-calls_for ms undone cs = check_calls cs ++ (map Make ms ++ replicate undone Undo)
+calls_for ms undone cs = check_calls cs ++ (make_all ms ++ replicate undone Undo)
 
 -- the record without moves, and so without checks
 empty_record : (gs : List Given) (solution : List ℕ) (ms : List Move) (undone : ℕ) (cs : List Asked) → length ms ≡ 0 → length cs ≡ 0 → undone ≡ 0
@@ -121,7 +121,7 @@ module _ (gs : List Given) (solution : List ℕ) (o : Opens gs solution) where
         ≡ book_of gs solution (line row column digit n) 0 (cs ++ (judge solution (suc n) row column digit ∷ []))
     unfolding line_calls keep
     one_check old cs u =
-        keep_append (book_of gs solution old 0 cs) (map Make (line row column digit n)) (Check row column ∷ replicate (suc n) Undo)
+        keep_append (book_of gs solution old 0 cs) (make_all (line row column digit n)) (Check row column ∷ replicate (suc n) Undo)
         ∙ ap (λ (k : Book). keep (step k (Check row column)) (replicate (suc n) Undo))
         (makes_some gs solution (line row column digit n) old cs (line_plays (opening gs) row column digit n on range clear)
         (omega (arith, line_length row column digit n)) (omega (arith, line_length row column digit n))
@@ -180,9 +180,9 @@ module _ (gs : List Given) (solution : List ℕ) (o : Opens gs solution) where
         (by_test (is_on (perform_all (opening gs) ms).solved) (λ t. absurd (omega (arith, final t))) (λ t. t))
 
     moves_undone : (old : List Move) (stored : List Stored) → 1 ≤ length ms
-        → keep (book_of gs solution old 0 stored) (map Make ms ++ replicate undone Undo) ≡ book_of gs solution ms (length ms - undone) stored
+        → keep (book_of gs solution old 0 stored) (make_all ms ++ replicate undone Undo) ≡ book_of gs solution ms (length ms - undone) stored
     moves_undone old stored some =
-        keep_append (book_of gs solution old 0 stored) (map Make ms) (replicate undone Undo)
+        keep_append (book_of gs solution old 0 stored) (make_all ms) (replicate undone Undo)
         ∙ ap (λ (k : Book). keep k (replicate undone Undo))
         (makes_some gs solution ms old stored plays few some
         ∙ ap (λ (n : ℕ). book_of gs solution ms n stored) {x = length ms} {y = undone + (length ms - undone)} (omega arith))
@@ -197,6 +197,6 @@ module _ (gs : List Given) (solution : List ℕ) (o : Opens gs solution) where
         let z : length ms ≡ 0 = eqb-true (length ms) 0 e in
         empty_record gs solution ms undone cs z (none z) (omega arith))
         (λ e.
-        keep_append (new_book gs solution) (check_calls cs) (map Make ms ++ replicate undone Undo)
-        ∙ ap (λ (k : Book). keep k (map Make ms ++ replicate undone Undo)) (all_asked cs [] [] a t (omega arith)).reaches
+        keep_append (new_book gs solution) (check_calls cs) (make_all ms ++ replicate undone Undo)
+        ∙ ap (λ (k : Book). keep k (make_all ms ++ replicate undone Undo)) (all_asked cs [] [] a t (omega arith)).reaches
         ∙ moves_undone (all_asked cs [] [] a t (omega arith)).moves (map (judged solution) cs) (omega (arith, eqb-false (length ms) 0 e)))

@@ -85,7 +85,7 @@ unfolding opening.no_moves opening.no_checks opening.wrong_length opening.turned
 of_open = 0
 
 unfoldable of_play : ℕ
-unfolding play.move_tests board.lent_tests play.undo_before play.redo_before play.journal_refusal play.call_tests play.record_move play.play_of play.slot_refusal play.unsound_slot play.can_take_back play.undo_tests play.undone play.undo_of play.can_retake play.redo_tests play.redone play.redo_of
+unfolding play.move_tests play.move_for play.play_tests board.lent_tests play.undo_before play.redo_before play.journal_refusal play.call_tests play.record_move play.play_of play.slot_refusal play.unsound_slot play.can_take_back play.undo_tests play.undone play.undo_of play.can_retake play.redo_tests play.redone play.redo_of
 of_play = 0
 
 unfoldable of_check : ℕ

@@ -24,14 +24,15 @@ use Rattle.journal.specs.Limits.{max_moves, max_checks}
 use Rattle.journal.specs.State.{State, opening, digit_at, holds_players_digit}
 use Rattle.journal.specs.StoredChecks.{Stored, is_right}
 use Rattle.journal.proofs.Moves.{Fit}
+use Rattle.play.specs.declared.Play.{Play}
 use Rattle.play.specs.Play.{move_tests}
 use Rattle.calls.specs.declared.Call.{Call}
 use Rattle.calls.specs.declared.Call.TheVariants.{Make, Undo, Redo, Check}
-use Rattle.demands.specs.Book.{Book, new_book, made, perform_all, state_in, refused_by, taken, with_moves, check_in, step, keep}
+use Rattle.demands.specs.Book.{Book, new_book, made, perform_all, state_in, refused_by, added, taken, with_moves, check_in, step, keep}
 use Rattle.demands.specs.Opens.{Opens}
 use Rattle.demands.proofs.Opening.{opening_free}
 use Rattle.demands.proofs.Plays.{Passes, Plays, plays_append, plays_take}
-use Rattle.demands.proofs.Refusals.{first_last, after_step, refused_make, refused_undo, refused_redo, refused_check}
+use Rattle.demands.proofs.Refusals.{first_last, after_step, refused_added, refused_undo, refused_redo, refused_check}
 use Rattle.demands.proofs.Reached.{reached_fit, reached_given, reached_is_given}
 use Rattle.demands.proofs.OneLeft.{right_solves}
 
@@ -69,16 +70,16 @@ last_passed s (StrikeMark row column digit) t p =
     (passed t 14 [] (passed _ 10 _ (passed _ 6 _ (passed _ 3 _ (passed _ 2 _ p).1).1).1).1).0
 
 module _ (k : Book) where
-  pub make_room : (m : Move) → refused_by k (Make m) ≡ 0 → k.standing ≡ max_moves → ⊥
-  make_room m p = eqb-false k.standing max_moves (last_passed (state_in k) m (eqb k.standing max_moves) (sym (refused_make k m) ∙ p))
+  module _ (a : Play) (p : refused_by k (Make a) ≡ 0) where
+    below_limit : eqb k.standing max_moves ≡ false
+    below_limit = last_passed (state_in k) (added (state_in k) a) (eqb k.standing max_moves) (sym (refused_added k a) ∙ p)
 
-  pub make_passes : (m : Move) → refused_by k (Make m) ≡ 0 → Passes (state_in k) m
-  unfolding Passes
-  make_passes m p =
-      sym
-      (first_last (move_tests (state_in k) m) (eqb k.standing max_moves) 15
-      (last_passed (state_in k) m (eqb k.standing max_moves) (sym (refused_make k m) ∙ p)))
-      ∙ sym (refused_make k m) ∙ p
+    pub make_room : k.standing ≡ max_moves → ⊥
+    make_room = eqb-false k.standing max_moves below_limit
+
+    pub make_passes : Passes (state_in k) (added (state_in k) a)
+    unfolding Passes
+    make_passes = sym (first_last (move_tests (state_in k) (added (state_in k) a)) (eqb k.standing max_moves) 15 below_limit) ∙ sym (refused_added k a) ∙ p
 
   pub undo_unsolved : refused_by k Undo ≡ 0 → is_on (state_in k).solved ≡ false
   undo_unsolved p = (passed _ 3 _ (sym (refused_undo k) ∙ p)).0
@@ -135,20 +136,23 @@ module _ (k : Book) (g : Good k) where
   unfolding made
   standing_length = length-take-le k.standing k.moves g.within
 
-  good_make : (m : Move) → refused_by k (Make m) ≡ 0 → Good (taken k (Make m))
+  good_make : (a : Play) → refused_by k (Make a) ≡ 0 → Good (taken k (Make a))
   unfolding taken with_moves made state_in Plays
-  good_make m p =
+  good_make a p =
       record {
         opens = g.opens;
-        plays = plays_append (opening k.givens) (take k.standing k.moves) (m ∷ []) standing_plays (make_passes k m p, tt);
+        plays = plays_append (opening k.givens) (take k.standing k.moves) (m ∷ []) standing_plays (make_passes k a p, tt);
         within = omega (arith, counted);
-        few = omega (arith, counted, make_room k m p, g.within, g.few);
+        few = omega (arith, counted, make_room k a p, g.within, g.few);
         few_checks = g.few_checks;
         final = λ s. sym counted;
         asked = λ e. absurd (omega (arith, counted));
         admitted = g.admitted;
       }
     where
+      m : Move
+      m = added (state_in k) a
+
       counted : length (take k.standing k.moves ++ (m ∷ [])) ≡ k.standing + 1
       counted = length-append (take k.standing k.moves) (m ∷ []) ∙ ap (λ (n : ℕ). n + 1) standing_length
 
@@ -226,7 +230,7 @@ module _ (k : Book) (g : Good k) where
         }
 
   pub good_taken : (c : Call) → refused_by k c ≡ 0 → Good (taken k c)
-  good_taken (Make m) p = good_make m p
+  good_taken (Make a) p = good_make a p
   good_taken Undo p = good_undo p
   good_taken Redo p = good_redo p
   good_taken (Check row column) p = good_check row column p

@@ -29,7 +29,8 @@ use Rattle.journal.proofs.Memory.{length_over, take_over_end, length_stored}
 use Rattle.board.specs.Board.{board_of, is_board, lent_tests, may_stand, digit_value, note_value, solution_value}
 use Rattle.board.specs.Open.{no_moves, no_checks}
 use Rattle.calls.specs.declared.Call.TheVariants.{Make, Check}
-use Rattle.demands.specs.Book.{Book, made, perform_all, state_in, slots_from, slots_in, taken, with_moves, check_in}
+use Rattle.play.specs.declared.Play.{Play}
+use Rattle.demands.specs.Book.{Book, made, perform_all, state_in, slots_from, slots_in, added, taken, with_moves, check_in}
 use Rattle.demands.specs.Demand3.{board_in}
 use Rattle.demands.proofs.Plays.{move_no, slots_append, slots_length, slots_in_two}
 use Rattle.demands.proofs.Good.{Good, good_fit}
@@ -108,10 +109,10 @@ module _ (journal checks : List ℕ) (k : Book) (h : Held journal checks k) wher
       ∙ slots_front (opening k.givens) k.moves k.standing u
 
   -- one move more: its slot laid over the journal behind the standing moves
-  pub held_make : (m : Move) → k.standing ≤ made k → k.standing < max_moves
-      → Held (over journal (slot_bytes * k.standing) (bytes_of (slot_for (state_in k) m))) checks (taken k (Make m))
+  pub held_make : (a : Play) → k.standing ≤ made k → k.standing < max_moves
+      → Held (over journal (slot_bytes * k.standing) (bytes_of (slot_for (state_in k) (added (state_in k) a)))) checks (taken k (Make a))
   unfolding taken with_moves made slots_in state_in slots_from bytes_of
-  held_make m u room =
+  held_make a u room =
       record {
         slots =
             ap (λ (n : ℕ). take n (over journal (slot_bytes * k.standing) (bytes_of (slot_for (state_in k) m)))) counted
@@ -123,6 +124,9 @@ module _ (journal checks : List ℕ) (k : Book) (h : Held journal checks k) wher
         checks_length_lem = h.checks_length_lem;
       }
     where
+      m : Move
+      m = added (state_in k) a
+
       fits : slot_bytes * k.standing + slot_bytes ≤ length journal
       fits = omega (arith, h.journal_length_lem)
 

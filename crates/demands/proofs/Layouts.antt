@@ -2,9 +2,11 @@
 -- Assumes nothing.
 use mathlib.Core.Path.{refl}
 use mathlib.Core.List.{[], ◌∷◌}
+use native.Mathlib.Omega.{arith}
 use Rattle.calls.specs.declared.Call.TheVariants.{Check}
 use Rattle.calls.specs.Session.{after}
 use Rattle.calls.specs.Encoded as encoded
+use Rattle.calls.proofs.Coding.{no_call_decoded}
 use Rattle.demands.specs.Layouts.{fresh_e, calls_slots, SlotRows, many_moves, CheckRows, item_bytes, item_parts, ItemRows, CallRows, MalformedRows, Layouts}
 use Rattle.demands.proofs.Computing.{computing}
 
@@ -32,13 +34,12 @@ call_rows =
     record {
       places = record { written = refl; read = refl };
       erases = record { written = refl; read = refl };
-      writes = record { written = refl; read = refl };
-      strikes = record { written = refl; read = refl };
+      pencils = record { written = refl; read = refl };
       undoes = record { written = refl; read = refl };
-      checks = record { written = refl; read = refl };
       redoes = record { written = refl; read = refl };
-      none_1 = refl;
-      none_9 = refl;
+      checks = record { written = refl; read = refl };
+      none_below = λ kind row column digit h. no_call_decoded kind row column digit (λ call a b e. omega (arith, h, a, e));
+      none_above = λ kind row column digit h. no_call_decoded kind row column digit (λ call a b e. omega (arith, h, b, e));
       refused = refl;
       right = refl;
     }

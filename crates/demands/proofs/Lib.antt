@@ -1,4 +1,5 @@
 pub mod Plays
+pub mod Added
 pub mod Refusals
 pub mod Making
 pub mod Lines
@@ -25,8 +26,11 @@ pub mod Demand3
 pub mod Solved
 pub mod PlayTheorem
 pub mod Readings
+pub mod Turned
 pub mod Undo
 pub mod LineRows
 pub mod PuzzleLines
 pub mod Keypad
+pub mod Inside
+pub mod Pencil
 pub mod Order

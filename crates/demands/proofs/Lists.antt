@@ -58,7 +58,7 @@ module _ {A : Type 0} (part : Book → A) (same : (k : Book) (c : Call) → part
 
 taken_same : (k : Book) (c : Call) → ((taken k c).givens ≡ k.givens) × ((taken k c).solution ≡ k.solution)
 unfolding taken with_moves
-taken_same k (Make m) = (refl, refl)
+taken_same k (Make a) = (refl, refl)
 taken_same k Undo = (refl, refl)
 taken_same k Redo = (refl, refl)
 taken_same k (Check row column) = (refl, refl)

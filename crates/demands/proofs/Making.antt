@@ -12,6 +12,7 @@ use lib.ListN.{length, take, replicate, length-append}
 use lib.Seq.{take-length}
 use borrow.Author.Tests.{ne_eqb}
 use Rattle.puzzle.specs.Givens.{is_on}
+use Rattle.sudoku.specs.Tests.{◌⇒◌, first}
 use Rattle.sudoku.proofs.Walks.{no_if, first_none, not_is_false}
 use Rattle.sudoku.specs.Grid.{on_grid, cell_of}
 use Rattle.puzzle.specs.declared.Given.{Given}
@@ -22,27 +23,41 @@ use Rattle.journal.specs.StoredChecks.{Stored, judge}
 use Rattle.play.specs.Play.{move_tests}
 use Rattle.calls.specs.declared.Call.{Call}
 use Rattle.calls.specs.declared.Call.TheVariants.{Make, Undo, Check}
-use Rattle.demands.specs.Book.{Book, perform_all, state_in, refused_by, taken, with_moves, check_in, step, keep}
+use Rattle.demands.specs.Book.{Book, perform_all, state_in, refused_by, added, taken, with_moves, check_in, step, keep}
 use Rattle.demands.proofs.Plays.{Passes, Plays, perform_append}
-use Rattle.demands.proofs.Refusals.{first_last, refused_make, refused_undo, refused_check, step_taken}
+use Rattle.demands.proofs.Added.{ask_for, asked_added}
+use Rattle.demands.proofs.Refusals.{first_last, passes_allowed, refused_added, refused_undo, refused_check, step_taken}
 
 -- ---- steps of any book
 
--- an accepted move drops those after standing
-made_drops : (k : Book) (m : Move) → refused_by k (Make m) ≡ 0
-    → step k (Make m) ≡ with_moves k (take k.standing k.moves ++ (m ∷ [])) (k.standing + 1)
-unfolding taken
-made_drops k m p = step_taken k (Make m) p
+-- the call that asks for a move, and those that ask for a list of moves
+abbrev pub make : Move → Call
+make m = Make (ask_for m)
+
+abbrev pub make_all : List Move → List Call
+make_all ms = map make ms
 
 pub keep_append : (k : Book) (cs ds : List Call) → keep k (cs ++ ds) ≡ keep (keep k cs) ds
 unfolding keep
 keep_append k [] ds = refl
 keep_append k (c ∷ cs) ds = keep_append (step k c) cs ds
 
-pub make_accepted : (k : Book) (m : Move) → Passes (state_in k) m → k.standing < max_moves → refused_by k (Make m) ≡ 0
-unfolding Passes
-make_accepted k m p h =
-    refused_make k m ∙ first_last (move_tests (state_in k) m) (eqb k.standing max_moves) 15 (ne_eqb k.standing max_moves (λ e. omega arith)) ∙ p
+-- a move that passes is added by its call, and drops those after standing
+module _ (k : Book) (m : Move) (p : Passes (state_in k) m) (h : k.standing < max_moves) where
+  its_own : added (state_in k) (ask_for m) ≡ m
+  its_own = asked_added (state_in k) m (passes_allowed (state_in k) m p)
+
+  make_accepted : refused_by k (make m) ≡ 0
+  unfolding Passes
+  make_accepted =
+      refused_added k (ask_for m)
+      ∙ ap (λ (n : Move). first (move_tests (state_in k) n ++ ((eqb k.standing max_moves ⇒ 15) ∷ []))) its_own
+      ∙ first_last (move_tests (state_in k) m) (eqb k.standing max_moves) 15 (ne_eqb k.standing max_moves (λ e. omega arith))
+      ∙ p
+
+  made_drops : step k (make m) ≡ with_moves k (take k.standing k.moves ++ (m ∷ [])) (k.standing + 1)
+  unfolding taken
+  made_drops = step_taken k (make m) make_accepted ∙ ap (λ (n : Move). with_moves k (take k.standing k.moves ++ (n ∷ [])) (k.standing + 1)) its_own
 
 pub undo_accepted : (k : Book) → is_on (state_in k).solved ≡ false → 1 ≤ k.standing → refused_by k Undo ≡ 0
 undo_accepted k p h =
@@ -67,20 +82,19 @@ module _ (givens : List Given) (solution : List ℕ) where
 
   -- one move more where all stand
   one_more : (old : List Move) (cs : List Stored) (m : Move) → Passes (perform_all (opening givens) old) m → length old < max_moves
-      → step (book_of old (length old) cs) (Make m) ≡ book_of (old ++ (m ∷ [])) (length (old ++ (m ∷ []))) cs
+      → step (book_of old (length old) cs) (make m) ≡ book_of (old ++ (m ∷ [])) (length (old ++ (m ∷ []))) cs
   unfolding book_of state_in with_moves
   one_more old cs m p h =
-      made_drops (book_of old (length old) cs) m
-      (make_accepted (book_of old (length old) cs) m (subst (λ (l : List Move). Passes (perform_all (opening givens) l) m) (sym (take-length old)) p) h)
+      made_drops (book_of old (length old) cs) m (subst (λ (l : List Move). Passes (perform_all (opening givens) l) m) (sym (take-length old)) p) h
       ∙ (λ i. book_of (take-length old i ++ (m ∷ [])) (sym (length-append old (m ∷ [])) i) cs)
 
   -- moves made where all that there are stand
   makes_more : (ms old : List Move) (cs : List Stored) → Plays (perform_all (opening givens) old) ms → length old + length ms ≤ max_moves
-      → keep (book_of old (length old) cs) (map Make ms) ≡ book_of (old ++ ms) (length (old ++ ms)) cs
+      → keep (book_of old (length old) cs) (make_all ms) ≡ book_of (old ++ ms) (length (old ++ ms)) cs
   unfolding keep Plays perform_all
   makes_more [] old cs p h = ap (λ (l : List Move). book_of l (length l) cs) (sym (append-nil old))
   makes_more (m ∷ ms) old cs p h =
-      ap (λ (k : Book). keep k (map Make ms)) (one_more old cs m p.0 (omega arith))
+      ap (λ (k : Book). keep k (make_all ms)) (one_more old cs m p.0 (omega arith))
       ∙ makes_more ms (old ++ (m ∷ [])) cs
       (subst (λ (s : State). Plays s ms) (sym (perform_append (opening givens) old (m ∷ []))) p.1)
       (omega (arith, length-append old (m ∷ [])))
@@ -88,14 +102,14 @@ module _ (givens : List Given) (solution : List ℕ) where
 
   -- the first move made where none stands drops all that there are
   makes : (m : Move) (ms old : List Move) (cs : List Stored) → Plays (opening givens) (m ∷ ms) → length (m ∷ ms) ≤ max_moves
-      → keep (book_of old 0 cs) (map Make (m ∷ ms)) ≡ book_of (m ∷ ms) (length (m ∷ ms)) cs
+      → keep (book_of old 0 cs) (make_all (m ∷ ms)) ≡ book_of (m ∷ ms) (length (m ∷ ms)) cs
   unfolding keep Plays perform_all book_of state_in with_moves
   makes m ms old cs p h =
-      ap (λ (k : Book). keep k (map Make ms)) (made_drops (book_of old 0 cs) m (make_accepted (book_of old 0 cs) m p.0 (omega arith)))
+      ap (λ (k : Book). keep k (make_all ms)) (made_drops (book_of old 0 cs) m p.0 (omega arith))
       ∙ makes_more ms (m ∷ []) cs p.1 (omega arith)
 
   pub makes_some : (ms old : List Move) (cs : List Stored) → Plays (opening givens) ms → length ms ≤ max_moves → 1 ≤ length ms
-      → keep (book_of old 0 cs) (map Make ms) ≡ book_of ms (length ms) cs
+      → keep (book_of old 0 cs) (make_all ms) ≡ book_of ms (length ms) cs
   makes_some [] old cs p h u = absurd (omega arith)
   makes_some (m ∷ ms) old cs p h u = makes m ms old cs p h
 

@@ -10,6 +10,7 @@ use Rattle.demands.proofs.Positions.{positions}
 use Rattle.demands.proofs.Layouts.{layouts}
 use Rattle.demands.proofs.PuzzleLines.{line_theorem}
 use Rattle.demands.proofs.Keypad.{keypad_theorem}
+use Rattle.demands.proofs.Pencil.{pencil_theorem}
 
 pub order : Order
 order =
@@ -23,4 +24,5 @@ order =
       layouts = layouts;
       lines = line_theorem;
       keypad = keypad_theorem;
+      pencil = pencil_theorem;
     }

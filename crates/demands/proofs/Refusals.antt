@@ -17,13 +17,16 @@ use Rattle.puzzle.specs.Puzzle.{holds_digit}
 use Rattle.journal.specs.declared.Move.{Move}
 use Rattle.journal.specs.declared.Move.TheVariants.{Place, Erase, WriteMark, StrikeMark}
 use Rattle.journal.specs.Limits.{max_moves, max_checks}
-use Rattle.journal.specs.State.{State, digit_at, note_at, holds_players_digit, accepts_marks, row_in, column_in, digit_in}
+use Rattle.journal.specs.State.{State, digit_at, note_at, holds_players_digit, accepts_marks}
 use Rattle.journal.proofs.Moves.{Allowed}
-use Rattle.play.specs.Play.{move_tests}
+use Rattle.play.specs.declared.Play.{Play}
+use Rattle.play.specs.declared.Play.TheVariants as play
+use Rattle.play.specs.Play.{move_tests, play_tests}
 use Rattle.calls.specs.declared.Call.{Call}
 use Rattle.calls.specs.declared.Call.TheVariants.{Make, Undo, Redo, Check}
-use Rattle.demands.specs.Book.{Book, made, state_in, refused_by, taken, step, is_of, kind_in, ordinal, cell_named, digit_named, no_such_cell, given_cell, no_players_digit, marks_not_accepted, digit_out_of_range, digit_already_stands, mark_already_written, mark_not_there, nothing_to_undo, nothing_to_redo, journal_full, checks_full}
+use Rattle.demands.specs.Book.{Book, made, state_in, refused_by, added, taken, step, is_of, kind_in, ordinal, cell_named, digit_named, no_such_cell, given_cell, no_players_digit, marks_not_accepted, digit_out_of_range, digit_already_stands, nothing_to_undo, nothing_to_redo, journal_full, checks_full}
 use Rattle.demands.proofs.Plays.{Passes}
+use Rattle.demands.proofs.Added.{added_tests}
 
 -- ---- a move that passes
 
@@ -40,7 +43,7 @@ passes_unsolved s (Erase row column) p = (passed _ 3 _ (passed _ 2 _ p).1).0
 passes_unsolved s (WriteMark row column digit) p = (passed _ 3 _ (passed _ 2 _ p).1).0
 passes_unsolved s (StrikeMark row column digit) p = (passed _ 3 _ (passed _ 2 _ p).1).0
 
-place_passes : (s : State) (row column digit : ℕ) → Passes s (Place row column digit) → Allowed s (Place row column digit)
+pub place_passes : (s : State) (row column digit : ℕ) → Passes s (Place row column digit) → Allowed s (Place row column digit)
 unfolding Passes move_tests
 place_passes s row column digit p =
     let on = passed _ 2 _ p in
@@ -50,7 +53,7 @@ place_passes s row column digit p =
     let other = passed _ 8 _ range.1 in
     record { grid = not-false _ on.0; free = free.0; range = not-false _ range.0; other = eqb-false _ _ other.0 }
 
-erase_passes : (s : State) (row column : ℕ) → Passes s (Erase row column) → Allowed s (Erase row column)
+pub erase_passes : (s : State) (row column : ℕ) → Passes s (Erase row column) → Allowed s (Erase row column)
 unfolding Passes move_tests holds_players_digit
 erase_passes s row column p =
     let on = passed _ 2 _ p in
@@ -87,6 +90,23 @@ passes_allowed s (Place row column digit) p = place_passes s row column digit p
 passes_allowed s (Erase row column) p = erase_passes s row column p
 passes_allowed s (WriteMark row column digit) p = write_passes s row column digit p
 passes_allowed s (StrikeMark row column digit) p = strike_passes s row column digit p
+
+-- the pencil's move, whichever of the two it is
+pub record PencilAllowed (s : State) (row column digit : ℕ) : Type 0 where
+  pub grid : on_grid row column ≡ true
+  pub empty : holds_digit s.digits (cell_of row column) ≡ false
+  pub range : in_range digit ≡ true
+
+pub pencil_passes : (s : State) (row column digit : ℕ) → Passes s (added s (play.Pencil row column digit)) → PencilAllowed s row column digit
+unfolding added contains
+pencil_passes s row column digit p =
+    by_test (contains (note_at s (cell_of row column)) digit)
+    (λ t.
+    let a = strike_passes s row column digit (subst (Passes s) (pick_true _ _ _ t) p) in
+    record { grid = a.grid; empty = a.empty; range = both_left _ _ a.there })
+    (λ t.
+    let a = write_passes s row column digit (subst (Passes s) (pick_false _ _ _ t) p) in
+    record { grid = a.grid; empty = a.empty; range = a.range })
 
 -- what passes: a digit put where no given and not this digit stands,
 -- a mark written where it is absent, a mark struck where it stands
@@ -126,16 +146,19 @@ strike_pass s row column digit on unsolved empty there =
 
 -- the words of the book's tests, opened together
 unfoldable booked : ℕ
-unfolding refused_by is_of kind_in ordinal cell_named digit_named no_such_cell given_cell no_players_digit marks_not_accepted digit_out_of_range digit_already_stands mark_already_written mark_not_there nothing_to_undo nothing_to_redo journal_full checks_full first pick both either
+unfolding refused_by is_of kind_in ordinal cell_named digit_named no_such_cell given_cell no_players_digit marks_not_accepted digit_out_of_range digit_already_stands nothing_to_undo nothing_to_redo journal_full checks_full first pick both either
 booked = 0
 
 module _ (k : Book) where
-  pub refused_make : (m : Move) → refused_by k (Make m) ≡ first (move_tests (state_in k) m ++ ((eqb k.standing max_moves ⇒ 15) ∷ []))
-  unfolding booked move_tests row_in column_in digit_in
-  refused_make (Place row column digit) = refl
-  refused_make (Erase row column) = refl
-  refused_make (WriteMark row column digit) = refl
-  refused_make (StrikeMark row column digit) = refl
+  pub refused_make : (a : Play) → refused_by k (Make a) ≡ first (play_tests (state_in k) a ++ ((eqb k.standing max_moves ⇒ 15) ∷ []))
+  unfolding booked play_tests move_tests
+  refused_make (play.Place row column digit) = refl
+  refused_make (play.Erase row column) = refl
+  refused_make (play.Pencil row column digit) = refl
+
+  -- and by the tests of the move that the call adds
+  pub refused_added : (a : Play) → refused_by k (Make a) ≡ first (move_tests (state_in k) (added (state_in k) a) ++ ((eqb k.standing max_moves ⇒ 15) ∷ []))
+  refused_added a = refused_make a ∙ added_tests (state_in k) a ((eqb k.standing max_moves ⇒ 15) ∷ [])
 
   pub refused_undo : refused_by k Undo ≡ first ((is_on (state_in k).solved ⇒ 4) ∷ (eqb k.standing 0 ⇒ 12) ∷ [])
   unfolding booked

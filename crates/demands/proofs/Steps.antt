@@ -27,14 +27,16 @@ use Rattle.journal.proofs.Moves.{Fit, Allowed, given_kept, performed_again, take
 use Rattle.board.specs.declared.Answer.{Answer}
 use Rattle.board.specs.Board.{state_of, counts_of, board_of, moved, lent_tests}
 use Rattle.board.specs.Open.{answer}
-use Rattle.play.specs.Play.{Played, played, call_tests, record_move, play_of, slot_refusal, can_take_back, undo_before, undo_tests, undone, undo_of, can_retake, redo_before, redo_tests, redone, redo_of}
+use Rattle.play.specs.declared.Play.{Play}
+use Rattle.play.specs.Play.{Played, played, move_for, call_tests, record_move, play_of, slot_refusal, can_take_back, undo_before, undo_tests, undone, undo_of, can_retake, redo_before, redo_tests, redone, redo_of}
 use Rattle.play.specs.Check.{CheckPlayed, check_tests, check_on, checked, with_check, check_of}
 use Rattle.calls.specs.declared.Call.{Call}
 use Rattle.calls.specs.declared.Call.TheVariants.{Make, Undo, Redo, Check}
 use Rattle.calls.specs.Session.{Session, Called, called, call_of}
-use Rattle.demands.specs.Book.{Book, made, perform_all, state_in, refused_by, taken, with_moves, check_in, slots_in, verdict, step, says}
+use Rattle.demands.specs.Book.{Book, made, perform_all, state_in, refused_by, added, taken, with_moves, check_in, slots_in, verdict, step, says}
 use Rattle.demands.specs.Demand3.{board_in}
 use Rattle.demands.proofs.Plays.{Passes, move_no, plays_take, plays_next, perform_append, perform_next, recorded_one}
+use Rattle.demands.proofs.Added.{same_move}
 use Rattle.demands.proofs.Refusals.{passes_unsolved, passes_allowed, refused_make, refused_undo, refused_redo, refused_check, step_taken, step_refused}
 use Rattle.demands.proofs.Reached.{reached_fit}
 use Rattle.demands.proofs.Good.{Good, make_room, undo_unsolved, undo_some, redo_some, check_room}
@@ -100,51 +102,54 @@ module _ {A : Type 0} (n m : ℕ) (e : n ≡ m) (done : A) (refused : ℕ → A)
   was_refused : eqb m 0 ≡ false → pick (eqb n 0) done (refused n) ≡ refused m
   was_refused p = pick_false (eqb n 0) done (refused n) (ap (λ (x : ℕ). eqb x 0) e ∙ p) ∙ ap refused e
 
--- ---- place, erase and marks
+-- ---- place, erase and pencil
+
+module _ (k : Book) (g : Good k) where
+  -- the state one move on
+  pub made_state : (a : Play) → state_in (taken k (Make a)) ≡ perform (state_in k) (added (state_in k) a)
+  unfolding state_in taken with_moves made perform_all
+  made_state a =
+      ap (λ (l : List Move). perform_all (opening k.givens) l)
+      (take_all (k.standing + 1) (take k.standing k.moves ++ (added (state_in k) a ∷ []))
+      (omega (arith, length-append (take k.standing k.moves) (added (state_in k) a ∷ []), length-take-le k.standing k.moves g.within)))
+      ∙ perform_append (opening k.givens) (take k.standing k.moves) (added (state_in k) a ∷ [])
+
+  made_count : (a : Play) → k.standing < max_moves → recorded (counts (made k) k.standing) ≡ counts (made (taken k (Make a))) (k.standing + 1)
+  unfolding taken with_moves made
+  made_count a room =
+      recorded_one (made k) k.standing g.within room
+      ∙ ap (λ (n : ℕ). counts n (k.standing + 1)) {x = k.standing + 1} {y = length (take k.standing k.moves ++ (added (state_in k) a ∷ []))}
+      (omega (arith, length-append (take k.standing k.moves) (added (state_in k) a ∷ []), length-take-le k.standing k.moves g.within))
 
 module _ (k : Book) (journal checks : List ℕ) (g : Good k) (h : Held journal checks k) where
-  play_number : (m : Move) → first (call_tests (board_in k) journal m) ≡ refused_by k (Make m)
+  play_number : (a : Play) → first (call_tests (board_in k) journal a) ≡ refused_by k (Make a)
   unfolding call_tests board_in board_of state_of
-  play_number m = lent_passed k g (eqb (length journal) journal_bytes) (eq-eqb (length journal) journal_bytes h.journal_length_lem) _ ∙ sym (refused_make k m)
+  play_number a = lent_passed k g (eqb (length journal) journal_bytes) (eq-eqb (length journal) journal_bytes h.journal_length_lem) _ ∙ sym (refused_make k a)
 
-  -- the state one move on
-  pub made_state : (m : Move) → state_in (taken k (Make m)) ≡ perform (state_in k) m
-  unfolding state_in taken with_moves made perform_all
-  made_state m =
-      ap (λ (l : List Move). perform_all (opening k.givens) l)
-      (take_all (k.standing + 1) (take k.standing k.moves ++ (m ∷ []))
-      (omega (arith, length-append (take k.standing k.moves) (m ∷ []), length-take-le k.standing k.moves g.within)))
-      ∙ perform_append (opening k.givens) (take k.standing k.moves) (m ∷ [])
+  -- the journal with the slot of the move that a call adds
+  unfoldable with_slot : Play → List ℕ
+  with_slot a = over journal (slot_bytes * k.standing) (bytes_of (slot_for (state_in k) (added (state_in k) a)))
 
-  made_count : (m : Move) → k.standing < max_moves → recorded (counts (made k) k.standing) ≡ counts (made (taken k (Make m))) (k.standing + 1)
-  unfolding taken with_moves made
-  made_count m room =
-      recorded_one (made k) k.standing g.within room
-      ∙ ap (λ (n : ℕ). counts n (k.standing + 1)) {x = k.standing + 1} {y = length (take k.standing k.moves ++ (m ∷ []))}
-      (omega (arith, length-append (take k.standing k.moves) (m ∷ []), length-take-le k.standing k.moves g.within))
+  -- that move recorded gives the board of the book after the call
+  recorded_board : (a : Play) → k.standing < max_moves → record_move (board_in k) journal (move_for (state_in k) a) ≡ played accepted (board_in (taken k (Make a))) (with_slot a)
+  unfolding record_move board_in board_of moved state_of counts_of taken with_moves with_slot
+  recorded_board a room =
+      ap (λ (m : Move). record_move (board_in k) journal m) (same_move (state_in k) a)
+      ∙ (λ i. played accepted (board_of (sym (made_state k g a) i) k.solution (made_count k g a room i) (length k.checks)) (with_slot a))
 
-  -- a move recorded gives the board of the book after it
-  pub recorded_board : (m : Move) → k.standing < max_moves
-      → record_move (board_in k) journal m ≡ played accepted (board_in (taken k (Make m))) (over journal (slot_bytes * k.standing) (bytes_of (slot_for (state_in k) m)))
-  unfolding record_move board_in board_of moved state_of counts_of taken with_moves
-  recorded_board m room =
-      λ i.
-      played accepted (board_of (sym (made_state m) i) k.solution (made_count m room i) (length k.checks))
-      (over journal (slot_bytes * k.standing) (bytes_of (slot_for (state_in k) m)))
+  room_for : (a : Play) → refused_by k (Make a) ≡ 0 → k.standing < max_moves
+  room_for a p = omega (arith, make_room k a p, g.within, g.few)
 
-  room_for : (m : Move) → refused_by k (Make m) ≡ 0 → k.standing < max_moves
-  room_for m p = omega (arith, make_room k m p, g.within, g.few)
-
-  make_agrees : (m : Move) → Agrees k journal checks (Make m)
-  unfolding play_of call_of verdict
-  make_agrees m =
-      agrees_by k journal checks (Make m) (over journal (slot_bytes * k.standing) (bytes_of (slot_for (state_in k) m))) checks h
-      (λ p. ap said (was_done n (refused_by k (Make m)) (play_number m) (record_move (board_in k) journal m) refused p ∙ recorded_board m (room_for m p)))
-      (λ p. held_make journal checks k h m g.within (room_for m p))
-      (λ t. ap said (was_refused n (refused_by k (Make m)) (play_number m) (record_move (board_in k) journal m) refused t))
+  make_agrees : (a : Play) → Agrees k journal checks (Make a)
+  unfolding play_of call_of verdict board_in board_of state_of with_slot
+  make_agrees a =
+      agrees_by k journal checks (Make a) (with_slot a) checks h
+      (λ p. ap said (was_done n (refused_by k (Make a)) (play_number a) (record_move (board_in k) journal (move_for (state_in k) a)) refused p ∙ recorded_board a (room_for a p)))
+      (λ p. held_make journal checks k h a g.within (room_for a p))
+      (λ t. ap said (was_refused n (refused_by k (Make a)) (play_number a) (record_move (board_in k) journal (move_for (state_in k) a)) refused t))
     where
       n : ℕ
-      n = first (call_tests (board_in k) journal m)
+      n = first (call_tests (board_in k) journal a)
 
       refused : ℕ → Played
       refused i = played (refusal i 0 0) (board_in k) journal
@@ -401,7 +406,7 @@ module _ (k : Book) (journal checks : List ℕ) (g : Good k) (h : Held journal c
   -- ---- each call
 
   pub agrees : (c : Call) → Agrees k journal checks c
-  agrees (Make m) = make_agrees k journal checks g h m
+  agrees (Make a) = make_agrees k journal checks g h a
   agrees Undo = undo_agrees
   agrees Redo = redo_agrees
   agrees (Check row column) = check_agrees row column

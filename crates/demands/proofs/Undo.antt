@@ -17,19 +17,22 @@ use Rattle.note.specs.Note.{contains}
 use Rattle.puzzle.specs.Refusals.{refusal}
 use Rattle.puzzle.specs.Givens.{is_on}
 use Rattle.journal.specs.declared.Move.{Move}
-use Rattle.journal.specs.declared.Move.TheVariants.{Place, Erase, WriteMark, StrikeMark}
 use Rattle.journal.specs.State.{State, opening, digit_at, note_at, perform}
-use Rattle.journal.proofs.Moves.{Fit, Allowed, given_kept}
-use Rattle.journal.proofs.Pointwise.{place_digit, place_mark, erase_digit, erase_notes, write_digits, strike_digits, write_mark_lem, strike_mark_lem}
+use Rattle.journal.proofs.Moves.{Fit, given_kept}
+use Rattle.journal.proofs.Pointwise.{place_digit, place_mark, erase_digit, erase_notes}
 use Rattle.board.specs.declared.Board.{Board}
 use Rattle.board.specs.Board.{board_of}
+use Rattle.play.specs.declared.Play.{Play}
+use Rattle.play.specs.declared.Play.TheVariants as play
 use Rattle.calls.specs.declared.Call.{Call}
 use Rattle.calls.specs.declared.Call.TheVariants.{Make, Undo, Redo}
 use Rattle.calls.specs.Session.{Session, Said, called, call_of, after, answers}
-use Rattle.demands.specs.Book.{Book, made, perform_all, state_in, refused_by, taken, with_moves, verdict, step, says, keep, says_all}
+use Rattle.demands.specs.Book.{Book, made, perform_all, state_in, refused_by, added, taken, with_moves, verdict, step, says, keep, says_all}
 use Rattle.demands.specs.Demand3.{board_in}
 use Rattle.demands.specs.Undo.{digit_after, marked, mark_after, yes, no, Does, AsItWas, TakenBack, Final, Cancel, UndoTheorem}
-use Rattle.demands.proofs.Refusals.{passes_unsolved, passes_allowed, refused_undo, refused_redo, step_taken, step_refused}
+use Rattle.demands.proofs.Plays.{Passes}
+use Rattle.demands.proofs.Refusals.{place_passes, erase_passes, pencil_passes, passes_unsolved, refused_undo, refused_redo, step_taken, step_refused}
+use Rattle.demands.proofs.Turned.{pencil_digits, pencil_mark}
 use Rattle.demands.proofs.Reached.{on_the_way}
 use Rattle.demands.proofs.Good.{Good, good_taken, good_fit, last_solved, make_passes, undo_unsolved, undo_some}
 use Rattle.demands.proofs.Held.{Held}
@@ -39,9 +42,9 @@ use Rattle.demands.proofs.Lists.{AgreesAll, agrees_all, of_book}
 -- ---- what is said
 
 -- no call but a check has a verdict
-make_silent : (k : Book) (m : Move) → verdict k (Make m) ≡ false
+pub make_silent : (k : Book) (a : Play) → verdict k (Make a) ≡ false
 unfolding verdict
-make_silent k m = refl
+make_silent k a = refl
 
 undo_silent : (k : Book) → verdict k Undo ≡ false
 unfolding verdict
@@ -52,7 +55,7 @@ unfolding verdict
 redo_silent k = refl
 
 module _ (k : Book) (c : Call) where
-  says_yes : verdict k c ≡ false → refused_by k c ≡ 0 → says k c ≡ yes
+  pub says_yes : verdict k c ≡ false → refused_by k c ≡ 0 → says k c ≡ yes
   unfolding says yes both
   says_yes v p = λ i. record { refusal = refusal (p i) 0 0; right = both (eqb (p i) 0) (v i) }
 
@@ -87,7 +90,7 @@ same_book k n e = ap (λ (m : ℕ). record { givens = k.givens; solution = k.sol
 
 module _ (k : Book) (journal checks : List ℕ) (g : Good k) (h : Held journal checks k) where
   -- an answer says what the book's number is
-  said_yes : (c : Call) → answers (session_of k journal checks) (c ∷ []) ≡ yes ∷ [] → refused_by k c ≡ 0
+  pub said_yes : (c : Call) → answers (session_of k journal checks) (c ∷ []) ≡ yes ∷ [] → refused_by k c ≡ 0
   unfolding says_all says yes
   said_yes c e = ap (λ (l : List Said). get_or (map (λ (a : Said). a.refusal.number) l) 0 0) (sym (agrees_all k journal checks (c ∷ []) g h).said ∙ e)
 
@@ -138,21 +141,25 @@ module _ (k : Book) (journal checks : List ℕ) (g : Good k) (h : Held journal c
 
   -- ---- a move, its undo and its redo
 
-  module _ (m : Move) (e : answers (session_of k journal checks) (Make m ∷ []) ≡ yes ∷ []) where
-    p : refused_by k (Make m) ≡ 0
-    p = said_yes (Make m) e
+  module _ (a : Play) (e : answers (session_of k journal checks) (Make a ∷ []) ≡ yes ∷ []) where
+    -- the move that the call adds
+    abbrev m : Move
+    m = added (state_in k) a
+
+    p : refused_by k (Make a) ≡ 0
+    p = said_yes (Make a) e
 
     unfoldable made_book : Book
-    made_book = taken k (Make m)
+    made_book = taken k (Make a)
 
     made_good : Good made_book
     unfolding made_book
-    made_good = good_taken k g (Make m) p
+    made_good = good_taken k g (Make a) p
 
     -- the board after the move
-    board_after_lem : (after (session_of k journal checks) (Make m ∷ [])).board ≡ board_in made_book
+    board_after_lem : (after (session_of k journal checks) (Make a ∷ [])).board ≡ board_in made_book
     unfolding keep made_book
-    board_after_lem = ap (λ (x : Session). x.board) (agrees_all k journal checks (Make m ∷ []) g h).left ∙ ap board_in (step_taken k (Make m) p)
+    board_after_lem = ap (λ (x : Session). x.board) (agrees_all k journal checks (Make a ∷ []) g h).left ∙ ap board_in (step_taken k (Make a) p)
 
     counted : length (take k.standing k.moves ++ (m ∷ [])) ≡ k.standing + 1
     unfolding made
@@ -161,13 +168,10 @@ module _ (k : Book) (journal checks : List ℕ) (g : Good k) (h : Held journal c
     fit : Fit (state_in k)
     fit = good_fit k g
 
-    allowed : Allowed (state_in k) m
-    allowed = passes_allowed (state_in k) m (make_passes k m p)
-
     -- the state after the move, at each cell and for each mark
     state_after_lem : state_in made_book ≡ perform (state_in k) m
     unfolding made_book
-    state_after_lem = made_state k journal checks g h m
+    state_after_lem = made_state k g a
 
     -- its undo is accepted where it did not solve the board, and gives the state before it
     unfoldable back_book : Book
@@ -189,18 +193,18 @@ module _ (k : Book) (journal checks : List ℕ) (g : Good k) (h : Held journal c
       unfolding back_book made_book taken with_moves made
       redo_p =
           redo_passes back_book (good_taken made_book made_good Undo undo_p)
-          (ap (λ (x : State). is_on x.solved) state_back ∙ passes_unsolved (state_in k) m (make_passes k m p)) (λ r. omega (arith, r, counted))
+          (ap (λ (x : State). is_on x.solved) state_back ∙ passes_unsolved (state_in k) m (make_passes k a p)) (λ r. omega (arith, r, counted))
 
       again_book : taken back_book Redo ≡ made_book
       unfolding back_book made_book taken with_moves
-      again_book = same_book (taken k (Make m)) (k.standing + 1 - 1 + 1) (omega arith)
+      again_book = same_book (taken k (Make a)) (k.standing + 1 - 1 + 1) (omega arith)
 
-      all : AgreesAll k journal checks (Make m ∷ Undo ∷ Redo ∷ [])
-      all = agrees_all k journal checks (Make m ∷ Undo ∷ Redo ∷ []) g h
+      all : AgreesAll k journal checks (Make a ∷ Undo ∷ Redo ∷ [])
+      all = agrees_all k journal checks (Make a ∷ Undo ∷ Redo ∷ []) g h
 
-      book_then : keep k (Make m ∷ Undo ∷ []) ≡ back_book
+      book_then : keep k (Make a ∷ Undo ∷ []) ≡ back_book
       unfolding keep back_book made_book
-      book_then = ap (λ (b : Book). step b Undo) (step_taken k (Make m) p) ∙ step_taken (taken k (Make m)) Undo undo_p
+      book_then = ap (λ (b : Book). step b Undo) (step_taken k (Make a) p) ∙ step_taken (taken k (Make a)) Undo undo_p
 
       as_it_was : AsItWas (board_in k) (board_in back_book)
       unfolding board_in board_of back_book made_book taken with_moves made
@@ -216,10 +220,10 @@ module _ (k : Book) (journal checks : List ℕ) (g : Good k) (h : Held journal c
             made = counted;
           }
 
-      board_then : (after (session_of k journal checks) (Make m ∷ Undo ∷ [])).board ≡ board_in back_book
-      board_then = ap (λ (x : Session). x.board) (agrees_all k journal checks (Make m ∷ Undo ∷ []) g h).left ∙ ap board_in book_then
+      board_then : (after (session_of k journal checks) (Make a ∷ Undo ∷ [])).board ≡ board_in back_book
+      board_then = ap (λ (x : Session). x.board) (agrees_all k journal checks (Make a ∷ Undo ∷ []) g h).left ∙ ap board_in book_then
 
-      board_again : (after (session_of k journal checks) (Make m ∷ Undo ∷ Redo ∷ [])).board ≡ (after (session_of k journal checks) (Make m ∷ [])).board
+      board_again : (after (session_of k journal checks) (Make a ∷ Undo ∷ Redo ∷ [])).board ≡ (after (session_of k journal checks) (Make a ∷ [])).board
       unfolding keep back_book
       board_again =
           ap (λ (x : Session). x.board) all.left
@@ -227,16 +231,16 @@ module _ (k : Book) (journal checks : List ℕ) (g : Good k) (h : Held journal c
           ∙ ap board_in (step_taken back_book Redo redo_p ∙ again_book)
           ∙ sym board_after_lem
 
-      taken_back : TakenBack (session_of k journal checks) m
+      taken_back : TakenBack (session_of k journal checks) a
       unfolding says_all after call_of called made_book back_book
       taken_back =
           record {
             answered =
                 all.said
-                ∙ ap (λ (b : Book). says k (Make m) ∷ says b Undo ∷ says (step b Undo) Redo ∷ []) (step_taken k (Make m) p)
-                ∙ ap (λ (b : Book). says k (Make m) ∷ says made_book Undo ∷ says b Redo ∷ []) (step_taken made_book Undo undo_p)
+                ∙ ap (λ (b : Book). says k (Make a) ∷ says b Undo ∷ says (step b Undo) Redo ∷ []) (step_taken k (Make a) p)
+                ∙ ap (λ (b : Book). says k (Make a) ∷ says made_book Undo ∷ says b Redo ∷ []) (step_taken made_book Undo undo_p)
                 ∙ (λ i.
-                says_yes k (Make m) (make_silent k m) p i
+                says_yes k (Make a) (make_silent k a) p i
                 ∷ says_yes made_book Undo (undo_silent made_book) undo_p i
                 ∷ says_yes back_book Redo (redo_silent back_book) redo_p i
                 ∷ []);
@@ -245,8 +249,8 @@ module _ (k : Book) (journal checks : List ℕ) (g : Good k) (h : Held journal c
                 λ i.
                 record {
                   board = board_again i;
-                  journal = (after (session_of k journal checks) (Make m ∷ [])).journal;
-                  checks = (after (session_of k journal checks) (Make m ∷ [])).checks;
+                  journal = (after (session_of k journal checks) (Make a ∷ [])).journal;
+                  checks = (after (session_of k journal checks) (Make a ∷ [])).checks;
                 };
           }
 
@@ -258,52 +262,56 @@ module _ (k : Book) (journal checks : List ℕ) (g : Good k) (h : Held journal c
       stays_book : step made_book Undo ≡ made_book
       stays_book = step_refused made_book Undo (ap (λ (n : ℕ). eqb n 0) undo_4)
 
-      final : Final (session_of k journal checks) m
+      final : Final (session_of k journal checks) a
       unfolding says_all after call_of called made_book keep
       final =
           record {
             answered =
-                (agrees_all k journal checks (Make m ∷ Undo ∷ []) g h).said
-                ∙ ap (λ (b : Book). says k (Make m) ∷ says b Undo ∷ []) (step_taken k (Make m) p)
-                ∙ (λ i. says_yes k (Make m) (make_silent k m) p i ∷ says_no made_book Undo 4 refl undo_4 i ∷ []);
+                (agrees_all k journal checks (Make a ∷ Undo ∷ []) g h).said
+                ∙ ap (λ (b : Book). says k (Make a) ∷ says b Undo ∷ []) (step_taken k (Make a) p)
+                ∙ (λ i. says_yes k (Make a) (make_silent k a) p i ∷ says_no made_book Undo 4 refl undo_4 i ∷ []);
             stays =
                 λ i.
                 record {
                   board = board_stays i;
-                  journal = (after (session_of k journal checks) (Make m ∷ [])).journal;
-                  checks = (after (session_of k journal checks) (Make m ∷ [])).checks;
+                  journal = (after (session_of k journal checks) (Make a ∷ [])).journal;
+                  checks = (after (session_of k journal checks) (Make a ∷ [])).checks;
                 };
           }
         where
-          board_stays : (after (session_of k journal checks) (Make m ∷ Undo ∷ [])).board ≡ (after (session_of k journal checks) (Make m ∷ [])).board
+          board_stays : (after (session_of k journal checks) (Make a ∷ Undo ∷ [])).board ≡ (after (session_of k journal checks) (Make a ∷ [])).board
           board_stays =
-              ap (λ (x : Session). x.board) (agrees_all k journal checks (Make m ∷ Undo ∷ []) g h).left
-              ∙ ap (λ (b : Book). board_in (step b Undo)) (step_taken k (Make m) p)
+              ap (λ (x : Session). x.board) (agrees_all k journal checks (Make a ∷ Undo ∷ []) g h).left
+              ∙ ap (λ (b : Book). board_in (step b Undo)) (step_taken k (Make a) p)
               ∙ ap board_in stays_book
               ∙ sym board_after_lem
 
     -- ---- what the move does
 
-    does_digit : (n : Move) → Allowed (state_in k) n → (cell : ℕ) → is_cell cell ≡ true → at (perform (state_in k) n).digits cell ≡ digit_after (board_in k) n cell
-    unfolding digit_after board_in board_of digit_at
-    does_digit (Place row column digit) a cell q = place_digit (state_in k) row column a.grid fit.digits_81 fit.notes_81 digit cell q
-    does_digit (Erase row column) a cell q = erase_digit (state_in k) row column a.grid fit.digits_81 fit.notes_81 cell q
-    does_digit (WriteMark row column digit) a cell q = ap (λ (l : List ℕ). at l cell) (write_digits (state_in k) row column digit)
-    does_digit (StrikeMark row column digit) a cell q = ap (λ (l : List ℕ). at l cell) (strike_digits (state_in k) row column digit)
+    does_digit : (n : Play) → Passes (state_in k) (added (state_in k) n) → (cell : ℕ) → is_cell cell ≡ true
+        → at (perform (state_in k) (added (state_in k) n)).digits cell ≡ digit_after (board_in k) n cell
+    unfolding digit_after board_in board_of digit_at added
+    does_digit (play.Place row column digit) q cell is =
+        place_digit (state_in k) row column (place_passes (state_in k) row column digit q).grid fit.digits_81 fit.notes_81 digit cell is
+    does_digit (play.Erase row column) q cell is = erase_digit (state_in k) row column (erase_passes (state_in k) row column q).grid fit.digits_81 fit.notes_81 cell is
+    does_digit (play.Pencil row column digit) q cell is = ap (λ (l : List ℕ). at l cell) (pencil_digits (state_in k) row column digit)
 
-    does_mark : (n : Move) → Allowed (state_in k) n → (cell d : ℕ) → is_cell cell ≡ true → contains (at (perform (state_in k) n).notes cell) d ≡ mark_after (board_in k) n cell d
-    unfolding mark_after marked board_in board_of note_at
-    does_mark (Place row column digit) a cell d q = place_mark (state_in k) row column a.grid fit.digits_81 fit.notes_81 digit cell d q
-    does_mark (Erase row column) a cell d q = ap (λ (l : List ℕ). contains (at l cell) d) (erase_notes (state_in k) row column)
-    does_mark (WriteMark row column digit) a cell d q = write_mark_lem (state_in k) row column a.grid fit.digits_81 fit.notes_81 digit cell d q a.range
-    does_mark (StrikeMark row column digit) a cell d q = strike_mark_lem (state_in k) row column a.grid fit.digits_81 fit.notes_81 digit cell d q
+    does_mark : (n : Play) → Passes (state_in k) (added (state_in k) n) → (cell d : ℕ) → is_cell cell ≡ true
+        → contains (at (perform (state_in k) (added (state_in k) n)).notes cell) d ≡ mark_after (board_in k) n cell d
+    unfolding mark_after marked board_in board_of note_at added
+    does_mark (play.Place row column digit) q cell d is =
+        place_mark (state_in k) row column (place_passes (state_in k) row column digit q).grid fit.digits_81 fit.notes_81 digit cell d is
+    does_mark (play.Erase row column) q cell d is = ap (λ (l : List ℕ). contains (at l cell) d) (erase_notes (state_in k) row column)
+    does_mark (play.Pencil row column digit) q cell d is =
+        let x = pencil_passes (state_in k) row column digit q in
+        pencil_mark (state_in k) row column digit x.grid fit.digits_81 fit.notes_81 x.range cell d is
 
-    does_book : Does (board_in k) m (board_in made_book)
+    does_book : Does (board_in k) a (board_in made_book)
     unfolding board_in board_of made_book taken with_moves made marked
     does_book =
         record {
-          digits = λ cell q. ap (λ (x : State). at x.digits cell) state_after_lem ∙ does_digit m allowed cell q;
-          marks = λ cell d q. ap (λ (x : State). contains (at x.notes cell) d) state_after_lem ∙ does_mark m allowed cell d q;
+          digits = λ cell q. ap (λ (x : State). at x.digits cell) state_after_lem ∙ does_digit a (make_passes k a p) cell q;
+          marks = λ cell d q. ap (λ (x : State). contains (at x.notes cell) d) state_after_lem ∙ does_mark a (make_passes k a p) cell d q;
           given = ap (λ (x : State). x.given) state_after_lem ∙ given_kept (state_in k) m;
           solution = refl;
           checks = refl;
@@ -311,34 +319,34 @@ module _ (k : Book) (journal checks : List ℕ) (g : Good k) (h : Held journal c
           made = counted;
         }
 
-    does : Does (board_in k) m (after (session_of k journal checks) (Make m ∷ [])).board
-    does = subst (λ (b : Board). Does (board_in k) m b) (sym board_after_lem) does_book
+    does : Does (board_in k) a (after (session_of k journal checks) (Make a ∷ [])).board
+    does = subst (λ (b : Board). Does (board_in k) a b) (sym board_after_lem) does_book
 
 -- ---- every session that calls reach
 
 -- the status of the board after a move, said as a test of the book's state
-module _ (k : Book) (journal checks : List ℕ) (g : Good k) (h : Held journal checks k) (m : Move) (e : answers (session_of k journal checks) (Make m ∷ []) ≡ yes ∷ [])
+module _ (k : Book) (journal checks : List ℕ) (g : Good k) (h : Held journal checks k) (a : Play) (e : answers (session_of k journal checks) (Make a ∷ []) ≡ yes ∷ [])
   where
-    status_after : (n : ℕ) → (after (session_of k journal checks) (Make m ∷ [])).board.solved ≡ n → is_on (state_in (made_book k journal checks g h m e)).solved ≡ is_on n
+    status_after : (n : ℕ) → (after (session_of k journal checks) (Make a ∷ [])).board.solved ≡ n → is_on (state_in (made_book k journal checks g h a e)).solved ≡ is_on n
     unfolding board_in board_of
-    status_after n z = ap is_on (sym (ap (λ (b : Board). b.solved) (board_after_lem k journal checks g h m e)) ∙ z)
+    status_after n z = ap is_on (sym (ap (λ (b : Board). b.solved) (board_after_lem k journal checks g h a e)) ∙ z)
 
 pub undo_theorem : UndoTheorem
 unfolding board_in
 undo_theorem =
     record {
       does =
-          λ s m r.
-          of_book s r (λ (x : Session) (k : Book). answers x (Make m ∷ []) ≡ yes ∷ [] → Does x.board m (after x (Make m ∷ [])).board)
-          (λ k journal checks g h e. does k journal checks g h m e);
+          λ s a r.
+          of_book s r (λ (x : Session) (k : Book). answers x (Make a ∷ []) ≡ yes ∷ [] → Does x.board a (after x (Make a ∷ [])).board)
+          (λ k journal checks g h e. does k journal checks g h a e);
       back =
-          λ s m r.
-          of_book s r (λ (x : Session) (k : Book). answers x (Make m ∷ []) ≡ yes ∷ [] → (after x (Make m ∷ [])).board.solved ≡ 0 → TakenBack x m)
-          (λ k journal checks g h e z. taken_back k journal checks g h m e (status_after k journal checks g h m e 0 z));
+          λ s a r.
+          of_book s r (λ (x : Session) (k : Book). answers x (Make a ∷ []) ≡ yes ∷ [] → (after x (Make a ∷ [])).board.solved ≡ 0 → TakenBack x a)
+          (λ k journal checks g h e z. taken_back k journal checks g h a e (status_after k journal checks g h a e 0 z));
       final =
-          λ s m r.
-          of_book s r (λ (x : Session) (k : Book). answers x (Make m ∷ []) ≡ yes ∷ [] → (after x (Make m ∷ [])).board.solved ≡ 1 → Final x m)
-          (λ k journal checks g h e z. final k journal checks g h m e (status_after k journal checks g h m e 1 z));
+          λ s a r.
+          of_book s r (λ (x : Session) (k : Book). answers x (Make a ∷ []) ≡ yes ∷ [] → (after x (Make a ∷ [])).board.solved ≡ 1 → Final x a)
+          (λ k journal checks g h e z. final k journal checks g h a e (status_after k journal checks g h a e 1 z));
       undo_redo =
           λ s r. of_book s r (λ (x : Session) (k : Book). answers x (Undo ∷ []) ≡ yes ∷ [] → Cancel x Undo Redo) (λ k journal checks g h e. undo_redo k journal checks g h e);
       redo_undo =

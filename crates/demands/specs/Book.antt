@@ -13,11 +13,13 @@ use Rattle.puzzle.specs.Refusals.{refusal}
 use Rattle.journal.specs.declared.Move.{Move}
 use Rattle.journal.specs.declared.Move.TheVariants.{Place, Erase, WriteMark, StrikeMark}
 use Rattle.journal.specs.Limits.{max_moves, max_checks}
-use Rattle.journal.specs.State.{State, opening, digit_at, note_at, holds_players_digit, accepts_marks, row_in, column_in, digit_in, perform}
+use Rattle.journal.specs.State.{State, opening, digit_at, note_at, holds_players_digit, accepts_marks, perform}
 use Rattle.journal.specs.Slots.{slot_for, bytes_of}
 use Rattle.journal.specs.StoredChecks.{Stored, judge}
 use Rattle.journal.specs.declared.Asked.{Asked}
 use Rattle.record.specs.Items.{Parts, record_of}
+use Rattle.play.specs.declared.Play.{Play}
+use Rattle.play.specs.declared.Play.TheVariants as play
 use Rattle.calls.specs.declared.Call.{Call}
 use Rattle.calls.specs.declared.Call.TheVariants.{Make, Undo, Redo, Check}
 use Rattle.calls.specs.Session.{Said}
@@ -48,13 +50,12 @@ state_in k = perform_all (opening k.givens) (take k.standing k.moves)
 
 -- the kinds of calls
 pub data Kind : Type 0 where
-  place erase write_mark strike_mark undo redo check : Kind
+  place erase pencil undo redo check : Kind
 
 unfoldable pub kind_in : Call → Kind
-kind_in (Make (Place row column digit)) = place
-kind_in (Make (Erase row column)) = erase
-kind_in (Make (WriteMark row column digit)) = write_mark
-kind_in (Make (StrikeMark row column digit)) = strike_mark
+kind_in (Make (play.Place row column digit)) = place
+kind_in (Make (play.Erase row column)) = erase
+kind_in (Make (play.Pencil row column digit)) = pencil
 kind_in Undo = undo
 kind_in Redo = redo
 kind_in (Check row column) = check
@@ -63,11 +64,10 @@ kind_in (Check row column) = check
 unfoldable pub ordinal : Kind → ℕ
 ordinal place = 1
 ordinal erase = 2
-ordinal write_mark = 3
-ordinal strike_mark = 4
-ordinal undo = 5
-ordinal redo = 6
-ordinal check = 7
+ordinal pencil = 3
+ordinal undo = 4
+ordinal redo = 5
+ordinal check = 6
 
 -- the call is of one of these kinds
 unfoldable pub is_of : List Kind → Call → Bool
@@ -76,20 +76,26 @@ is_of (kind ∷ kinds) c = either (eqb (ordinal (kind_in c)) (ordinal kind)) (is
 
 -- the cell and the digit that a call names; 0 where it names none
 unfoldable pub cell_named : Call → ℕ
-cell_named (Make m) = cell_of (row_in m) (column_in m)
+cell_named (Make (play.Place row column digit)) = cell_of row column
+cell_named (Make (play.Erase row column)) = cell_of row column
+cell_named (Make (play.Pencil row column digit)) = cell_of row column
 cell_named Undo = 0
 cell_named Redo = 0
 cell_named (Check row column) = cell_of row column
 
 unfoldable pub digit_named : Call → ℕ
-digit_named (Make m) = digit_in m
+digit_named (Make (play.Place row column digit)) = digit
+digit_named (Make (play.Erase row column)) = 0
+digit_named (Make (play.Pencil row column digit)) = digit
 digit_named Undo = 0
 digit_named Redo = 0
 digit_named (Check row column) = 0
 
 -- 3 NoSuchCell: the call names a position off the grid
 unfoldable pub no_such_cell : Call → Bool
-no_such_cell (Make m) = not (on_grid (row_in m) (column_in m))
+no_such_cell (Make (play.Place row column digit)) = not (on_grid row column)
+no_such_cell (Make (play.Erase row column)) = not (on_grid row column)
+no_such_cell (Make (play.Pencil row column digit)) = not (on_grid row column)
 no_such_cell Undo = false
 no_such_cell Redo = false
 no_such_cell (Check row column) = not (on_grid row column)
@@ -102,25 +108,17 @@ given_cell s c = both (is_of (place ∷ []) c) (is_given s.given (cell_named c))
 unfoldable pub no_players_digit : State → Call → Bool
 no_players_digit s c = both (is_of (erase ∷ check ∷ []) c) (not (holds_players_digit s (cell_named c)))
 
--- 7 MarksNotAccepted (marks)
+-- 7 MarksNotAccepted (pencil)
 unfoldable pub marks_not_accepted : State → Call → Bool
-marks_not_accepted s c = both (is_of (write_mark ∷ strike_mark ∷ []) c) (not (accepts_marks s (cell_named c)))
+marks_not_accepted s c = both (is_of (pencil ∷ []) c) (not (accepts_marks s (cell_named c)))
 
--- 8 DigitOutOfRange (place, write mark)
+-- 8 DigitOutOfRange (place, pencil)
 unfoldable pub digit_out_of_range : Call → Bool
-digit_out_of_range c = both (is_of (place ∷ write_mark ∷ []) c) (not (in_range (digit_named c)))
+digit_out_of_range c = both (is_of (place ∷ pencil ∷ []) c) (not (in_range (digit_named c)))
 
 -- 9 DigitAlreadyStands (place)
 unfoldable pub digit_already_stands : State → Call → Bool
 digit_already_stands s c = both (is_of (place ∷ []) c) (eqb (digit_at s (cell_named c)) (digit_named c))
-
--- 10 MarkAlreadyWritten (write mark)
-unfoldable pub mark_already_written : State → Call → Bool
-mark_already_written s c = both (is_of (write_mark ∷ []) c) (contains (note_at s (cell_named c)) (digit_named c))
-
--- 11 MarkNotThere (strike mark)
-unfoldable pub mark_not_there : State → Call → Bool
-mark_not_there s c = both (is_of (strike_mark ∷ []) c) (not (contains (note_at s (cell_named c)) (digit_named c)))
 
 -- 12 NothingToUndo, 13 NothingToRedo
 unfoldable pub nothing_to_undo : Book → Call → Bool
@@ -131,14 +129,15 @@ nothing_to_redo k c = both (is_of (redo ∷ []) c) (eqb k.standing (made k))
 
 -- 15 Standing is 1,024 and a move would be recorded
 unfoldable pub journal_full : Book → Call → Bool
-journal_full k c = both (is_of (place ∷ erase ∷ write_mark ∷ strike_mark ∷ []) c) (eqb k.standing max_moves)
+journal_full k c = both (is_of (place ∷ erase ∷ pencil ∷ []) c) (eqb k.standing max_moves)
 
 -- 16 256 checks are stored (check)
 unfoldable pub checks_full : Book → Call → Bool
 checks_full k c = both (is_of (check ∷ []) c) (eqb (length k.checks) max_checks)
 
 -- a call to which 3 to 13, 15 or 16 applies in the book is refused by the
--- lowest; 0 where none applies. 4 applies to every call on a solved board
+-- lowest; 0 where none applies. 4 applies to every call on a solved board, 10 and 11 to none: the pencil neither
+-- writes a mark that is present nor strikes one that is absent
 unfoldable pub refused_by : Book → Call → ℕ
 refused_by k c =
     let s = state_in k in
@@ -150,8 +149,6 @@ refused_by k c =
     ∷ (marks_not_accepted s c ⇒ 7)
     ∷ (digit_out_of_range c ⇒ 8)
     ∷ (digit_already_stands s c ⇒ 9)
-    ∷ (mark_already_written s c ⇒ 10)
-    ∷ (mark_not_there s c ⇒ 11)
     ∷ (nothing_to_undo k c ⇒ 12)
     ∷ (nothing_to_redo k c ⇒ 13)
     ∷ (journal_full k c ⇒ 15)
@@ -167,10 +164,17 @@ with_moves k moves standing =
 unfoldable pub check_in : Book → ℕ → ℕ → Stored
 check_in k row column = judge k.solution k.standing row column (digit_at (state_in k) (cell_of row column))
 
--- an accepted call. Place, erase and mark calls drop the moves after standing, add their own and raise standing by one;
--- undo lowers it by one, redo raises it by one; a check adds itself
+-- the move that such a call adds: a pencil call strikes a present mark and writes an absent one
+unfoldable pub added : State → Play → Move
+added s (play.Place row column digit) = Place row column digit
+added s (play.Erase row column) = Erase row column
+added s (play.Pencil row column digit) =
+    pick (contains (note_at s (cell_of row column)) digit) (StrikeMark row column digit) (WriteMark row column digit)
+
+-- an accepted call. Place, erase and pencil calls drop the moves after standing, add their own and raise standing by
+-- one; undo lowers it by one, redo raises it by one; a check adds itself
 unfoldable pub taken : Book → Call → Book
-taken k (Make m) = with_moves k (take k.standing k.moves ++ (m ∷ [])) (k.standing + 1)
+taken k (Make p) = with_moves k (take k.standing k.moves ++ (added (state_in k) p ∷ [])) (k.standing + 1)
 taken k Undo = with_moves k k.moves (k.standing - 1)
 taken k Redo = with_moves k k.moves (k.standing + 1)
 taken k (Check row column) =
@@ -184,7 +188,7 @@ taken k (Check row column) =
 
 -- the verdict that an accepted call hears; false for any call but a check
 unfoldable pub verdict : Book → Call → Bool
-verdict k (Make m) = false
+verdict k (Make p) = false
 verdict k Undo = false
 verdict k Redo = false
 verdict k (Check row column) = (check_in k row column).right

@@ -3,7 +3,7 @@
 -- numbers in every field, and says both which bytes are written and what is read of these bytes, so that
 -- a layout changed in writing and reading alike, as by a swap of row and column, breaks it.
 -- The proof stands elsewhere. Assumes nothing.
-use Rattle.std.specs.Prelude.{ℕ, ◌+◌, ◌-◌, ◌*◌, ◌^◌, ◌≡◌, true, false, List, [], ◌∷◌, ◌++◌, replicate, Some, None}
+use Rattle.std.specs.Prelude.{ℕ, ◌+◌, ◌-◌, ◌*◌, ◌^◌, ◌<◌, ◌≡◌, true, false, List, [], ◌∷◌, ◌++◌, replicate, Some, None}
 use Rattle.puzzle.specs.Refusals.{refusal, accepted}
 use Rattle.puzzle.specs.Givens.{triples}
 use Rattle.journal.specs.declared.Move.{Move}
@@ -18,11 +18,12 @@ use Rattle.board.specs.Board.{state_of, board_of}
 use Rattle.board.specs.Open.{opened_fresh, no_moves, no_checks}
 use Rattle.record.specs.Items.{Parts, record_of}
 use Rattle.record.specs.Scan.{malformed, parts_of_bytes}
+use Rattle.play.specs.declared.Play.TheVariants as play
 use Rattle.calls.specs.declared.Call.{Call}
 use Rattle.calls.specs.declared.Call.TheVariants.{Make, Undo, Redo, Check}
 use Rattle.calls.specs.Session.{Session, after, started}
-use Rattle.calls.specs.Encoded.{call_bytes, encode, decode_at, answer_bytes, said}
-use Rattle.demands.specs.Positions.{solution_g, givens_e, place, write_mark, strike_mark}
+use Rattle.calls.specs.Encoded.{call_bytes, encode, decode, decode_at, answer_bytes, said}
+use Rattle.demands.specs.Positions.{solution_g, givens_e, place, pencil}
 
 -- the fresh board of E
 unfoldable pub fresh_e : Session
@@ -37,12 +38,12 @@ pub record SlotRow (journal : List ℕ) (n : ℕ) (bytes : List ℕ) (slot : Slo
   pub read : slot_at (replicate (slot_bytes * (n - 1)) 0 ++ bytes) n ≡ slot
   pub move : move_of slot ≡ m
 
--- mark 4 is written into peers 0, 12 and 19 of (3,7), where 9 and then 4 are placed;
--- 5 is placed at (6,2) and erased; mark 6 is written at (9,2) and struck
+-- mark 4 is pencilled into peers 0, 12 and 19 of (3,7), where 9 and then 4 are placed;
+-- 5 is placed at (6,2) and erased; mark 6 is pencilled at (9,2) twice, so written and struck
 unfoldable pub calls_slots : List Call
 calls_slots =
-    write_mark 1 7 4 ∷ write_mark 3 8 4 ∷ write_mark 9 7 4 ∷ place 3 7 9 ∷ place 3 7 4
-    ∷ place 6 2 5 ∷ Make (Erase 6 2) ∷ write_mark 9 2 6 ∷ strike_mark 9 2 6 ∷ []
+    pencil 1 7 4 ∷ pencil 3 8 4 ∷ pencil 9 7 4 ∷ place 3 7 9 ∷ place 3 7 4
+    ∷ place 6 2 5 ∷ Make (play.Erase 6 2) ∷ pencil 9 2 6 ∷ pencil 9 2 6 ∷ []
 
 pub record SlotRows (journal : List ℕ) : Type 0 where
   pub places :
@@ -110,15 +111,15 @@ pub record CallRow (c : Call) (bytes : List ℕ) : Type 0 where
   pub read : decode_at (replicate call_bytes 0 ++ bytes) 1 ≡ Some c
 
 pub record CallRows : Type 0 where
-  pub places : CallRow (place 3 7 4) (2 ∷ 3 ∷ 7 ∷ 4 ∷ [])
-  pub erases : CallRow (Make (Erase 6 2)) (3 ∷ 6 ∷ 2 ∷ 0 ∷ [])
-  pub writes : CallRow (write_mark 9 2 6) (4 ∷ 9 ∷ 2 ∷ 6 ∷ [])
-  pub strikes : CallRow (strike_mark 8 1 3) (5 ∷ 8 ∷ 1 ∷ 3 ∷ [])
-  pub undoes : CallRow Undo (6 ∷ 0 ∷ 0 ∷ 0 ∷ [])
-  pub checks : CallRow (Check 9 2) (7 ∷ 9 ∷ 2 ∷ 0 ∷ [])
-  pub redoes : CallRow Redo (8 ∷ 0 ∷ 0 ∷ 0 ∷ [])
-  pub none_1 : decode_at (1 ∷ 3 ∷ 7 ∷ 4 ∷ []) 0 ≡ None
-  pub none_9 : decode_at (9 ∷ 3 ∷ 7 ∷ 4 ∷ []) 0 ≡ None
+  pub places : CallRow (place 3 7 4) (16 ∷ 3 ∷ 7 ∷ 4 ∷ [])
+  pub erases : CallRow (Make (play.Erase 6 2)) (17 ∷ 6 ∷ 2 ∷ 0 ∷ [])
+  pub pencils : CallRow (pencil 9 2 6) (18 ∷ 9 ∷ 2 ∷ 6 ∷ [])
+  pub undoes : CallRow Undo (19 ∷ 0 ∷ 0 ∷ 0 ∷ [])
+  pub redoes : CallRow Redo (20 ∷ 0 ∷ 0 ∷ 0 ∷ [])
+  pub checks : CallRow (Check 9 2) (21 ∷ 9 ∷ 2 ∷ 0 ∷ [])
+  -- no kind of a move, 2 to 5 today and others below 16 to come, encodes a call, nor does a byte above the last one
+  pub none_below : (kind row column digit : ℕ) → kind < 16 → decode kind row column digit ≡ None
+  pub none_above : (kind row column digit : ℕ) → 21 < kind → decode kind row column digit ≡ None
   pub refused : answer_bytes (said (refusal 14 772 0) false) ≡ 14 ∷ 4 ∷ 3 ∷ 0 ∷ []
   pub right : answer_bytes (said accepted true) ≡ 0 ∷ 0 ∷ 0 ∷ 1 ∷ []
 

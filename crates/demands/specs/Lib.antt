@@ -9,4 +9,5 @@ pub mod Readings
 pub mod Layouts
 pub mod PuzzleLines
 pub mod Keypad
+pub mod Pencil
 pub mod Order

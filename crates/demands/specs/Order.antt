@@ -10,6 +10,7 @@ use Rattle.demands.specs.Positions.{Positions}
 use Rattle.demands.specs.Layouts.{Layouts}
 use Rattle.demands.specs.PuzzleLines.{LineTheorem}
 use Rattle.demands.specs.Keypad.{KeypadTheorem}
+use Rattle.demands.specs.Pencil.{PencilTheorem}
 
 pub record Order : Type 0 where
   -- Solved.antt: a board that calls reach is solved exactly when every row, column and box holds each of 1 to 9 once
@@ -37,3 +38,6 @@ pub record Order : Type 0 where
   -- for its key is nine less those; none is left exactly where each row, column and box holds the digit once, and of no
   -- digit exactly on a solved board; what a digit put into an empty cell does to the keys
   pub keypad : KeypadTheorem
+  -- Pencil.antt: no call answers 10 or 11, which stand inside 29 alone, where a record's moves keep their old rules;
+  -- the pencil's numbers in their order; and a second press made at once takes the first back, both standing
+  pub pencil : PencilTheorem

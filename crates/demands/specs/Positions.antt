@@ -1,4 +1,5 @@
--- The twelve positions of document 01, as rows of one statement. The proof stands elsewhere.
+-- The twelve positions of document 01, as rows of one statement; the pencil call stands for its two mark calls, by
+-- document 02, point 3. The proof stands elsewhere.
 -- Assumes nothing.
 use Rattle.std.specs.Prelude.{ℕ, zero, suc, ◌+◌, ◌-◌, ◌*◌, ◌/◌, ◌%◌, ◌≡◌, Bool, true, false, List, [], ◌∷◌, ◌++◌, map, replicate}
 use Rattle.sudoku.specs.Tests.{listed}
@@ -8,13 +9,13 @@ use Rattle.puzzle.specs.Refusals.{refusal, accepted}
 use Rattle.puzzle.specs.Puzzle.{conflicts}
 use Rattle.puzzle.specs.Givens.{triples}
 use Rattle.journal.specs.Limits.{record_bytes}
-use Rattle.journal.specs.declared.Move.TheVariants.{Place, WriteMark, StrikeMark}
 use Rattle.journal.specs.Bytes.{over}
 use Rattle.journal.specs.Slots.{slot_at, slot_part}
 use Rattle.journal.specs.StoredChecks.{verdict_byte}
 use Rattle.board.specs.Open.{Opened, open_of, opened_fresh, no_moves, no_checks}
 use Rattle.record.specs.Write.{Wrote, wrote, write_of}
 use Rattle.record.specs.Reopen.{reopen_of}
+use Rattle.play.specs.declared.Play.TheVariants.{Place, Pencil}
 use Rattle.calls.specs.declared.Call.{Call}
 use Rattle.calls.specs.declared.Call.TheVariants.{Make, Undo, Check}
 use Rattle.calls.specs.Session.{Session, Said, after, answers, started}
@@ -51,11 +52,8 @@ L = started (open_g givens_l)
 abbrev pub place : ℕ → ℕ → ℕ → Call
 place row column digit = Make (Place row column digit)
 
-abbrev pub write_mark : ℕ → ℕ → ℕ → Call
-write_mark row column digit = Make (WriteMark row column digit)
-
-abbrev pub strike_mark : ℕ → ℕ → ℕ → Call
-strike_mark row column digit = Make (StrikeMark row column digit)
+abbrev pub pencil : ℕ → ℕ → ℕ → Call
+pencil row column digit = Make (Pencil row column digit)
 
 -- the numbers that calls answer from a session on, and their verdicts
 unfoldable pub numbers : Session → List Call → List ℕ
@@ -64,9 +62,9 @@ numbers s calls = map (λ (a : Said). a.refusal.number) (answers s calls)
 unfoldable pub verdicts : Session → List Call → List Bool
 verdicts s calls = map (λ (a : Said). a.right) (answers s calls)
 
--- e: mark 5 written in all peers of (5,5)
+-- e: mark 5 in all peers of (5,5)
 unfoldable pub marks_around : List ℕ → List Call
-marks_around cells = map (λ cell. write_mark (row_of cell) (column_of cell) 5) cells
+marks_around cells = map (λ cell. pencil (row_of cell) (column_of cell) 5) cells
 
 unfoldable pub calls_e : List Call
 calls_e = marks_around (peers_of (cell_of 5 5))
@@ -75,10 +73,10 @@ calls_e = marks_around (peers_of (cell_of 5 5))
 unfoldable pub notes_around : Session → List ℕ
 notes_around s = map (λ cell. at s.board.notes cell) (peers_of (cell_of 5 5))
 
--- k: write and strike mark 1 at (1,1) in turn, n times each
+-- k: mark 1 at (1,1) written and struck in turn, n times each
 unfoldable pub in_turn : ℕ → List Call
 in_turn zero = []
-in_turn (suc n) = write_mark 1 1 1 ∷ strike_mark 1 1 1 ∷ in_turn n
+in_turn (suc n) = pencil 1 1 1 ∷ pencil 1 1 1 ∷ in_turn n
 
 -- what writing a session's record into an output of zeros finds: the record and zeros beyond it
 unfoldable pub write : Session → Wrote
@@ -109,7 +107,7 @@ abbrev pub record_f : List ℕ
 record_f = 2 ∷ 1 ∷ 1 ∷ 5 ∷ 4 ∷ 1 ∷ 2 ∷ 3 ∷ 6 ∷ 1 ∷ 0 ∷ 7 ∷ 1 ∷ 0 ∷ 1 ∷ 1 ∷ 5 ∷ []
 
 unfoldable pub calls_f : List Call
-calls_f = place 1 1 5 ∷ write_mark 1 2 3 ∷ Undo ∷ Check 1 1 ∷ []
+calls_f = place 1 1 5 ∷ pencil 1 2 3 ∷ Undo ∷ Check 1 1 ∷ []
 
 -- E and L open with solution G
 pub record Openings : Type 0 where
@@ -134,18 +132,18 @@ pub record RowC (s : Session) : Type 0 where
   pub answered : numbers s (place 1 1 5 ∷ place 1 1 5 ∷ place 1 1 6 ∷ []) ≡ 0 ∷ 9 ∷ 0 ∷ []
   pub before : (slot_at (after s (place 1 1 5 ∷ place 1 1 5 ∷ place 1 1 6 ∷ [])).journal 2).before ≡ 5
 
--- d | E: place (5,5) 10; strike mark 10 there | 8; 11
+-- d | E: place (5,5) 10; pencil mark 10 there | 8; 8
 pub record RowD (s : Session) : Type 0 where
-  pub answered : numbers s (place 5 5 10 ∷ strike_mark 5 5 10 ∷ []) ≡ 8 ∷ 11 ∷ []
+  pub answered : numbers s (place 5 5 10 ∷ pencil 5 5 10 ∷ []) ≡ 8 ∷ 8 ∷ []
 
--- e | E: mark 5 in all peers of (5,5), place 5 there, undo | mask bytes 255, 255, 15; twenty marks back
+-- e | E: pencil mark 5 in all peers of (5,5), place 5 there, undo | mask bytes 255, 255, 15; twenty marks back
 pub record RowE (s : Session) : Type 0 where
   pub answered : numbers s (calls_e ++ place 5 5 5 ∷ Undo ∷ []) ≡ replicate 22 0
   pub mask : slot_part (after s (calls_e ++ place 5 5 5 ∷ [])).journal 21 ≡ 2 ∷ 5 ∷ 5 ∷ 5 ∷ 0 ∷ 255 ∷ 255 ∷ 15 ∷ []
   pub struck : notes_around (after s (calls_e ++ place 5 5 5 ∷ [])) ≡ replicate 20 0
   pub back : notes_around (after s (calls_e ++ place 5 5 5 ∷ Undo ∷ [])) ≡ replicate 20 32
 
--- f | E: place (1,1) 5, write mark (1,2) 3, undo, check (1,1), write | 2 1 1 5 4 1 2 3 6 1 0 7 1 0 1 1 5
+-- f | E: place (1,1) 5, pencil (1,2) 3, undo, check (1,1), write | 2 1 1 5 4 1 2 3 6 1 0 7 1 0 1 1 5
 pub record RowF (s : Session) : Type 0 where
   pub answered : numbers s calls_f ≡ 0 ∷ 0 ∷ 0 ∷ 0 ∷ []
   pub written : write (after s calls_f) ≡ wrote accepted 17 (over (replicate record_bytes 0) 0 record_f)
@@ -173,9 +171,9 @@ pub record RowJ : Type 0 where
   pub undone_1 : reopening (record_l (2 ∷ 9 ∷ 9 ∷ 8 ∷ 6 ∷ 1 ∷ 0 ∷ [])) ≡ refusal 30 0 0
   pub then_7 : reopening (record_l (2 ∷ 9 ∷ 9 ∷ 8 ∷ 2 ∷ 9 ∷ 9 ∷ 7 ∷ 6 ∷ 0 ∷ 0 ∷ [])) ≡ refusal 28 2 0
 
--- k | E: write and strike mark 1 at (1,1) in turn, 1,024 moves, then write it again; undo, strike it | 15; accepted
+-- k | E: pencil mark 1 at (1,1) 1,024 times, so write and strike it in turn, then once more; undo, pencil | 15; accepted
 pub record RowK (s : Session) : Type 0 where
-  pub answered : numbers s (in_turn 512 ++ write_mark 1 1 1 ∷ Undo ∷ strike_mark 1 1 1 ∷ []) ≡ replicate 1024 0 ++ 15 ∷ 0 ∷ 0 ∷ []
+  pub answered : numbers s (in_turn 512 ++ pencil 1 1 1 ∷ Undo ∷ pencil 1 1 1 ∷ []) ≡ replicate 1024 0 ++ 15 ∷ 0 ∷ 0 ∷ []
 
 -- l | 80 givens of G; all 81 with a zero solution | opens; 22
 pub record RowL : Type 0 where

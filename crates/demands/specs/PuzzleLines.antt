@@ -15,7 +15,7 @@ use Rattle.lines.specs.Lines.{line_bytes, givens_room, line_givens, read_line_of
 use Rattle.calls.specs.declared.Call.{Call}
 use Rattle.calls.specs.Session.{Session, after, started}
 use Rattle.demands.specs.Demand3.{Reached}
-use Rattle.demands.specs.Positions.{open_g, place, write_mark}
+use Rattle.demands.specs.Positions.{open_g, place, pencil}
 
 -- the bytes that a call has written
 unfoldable pub bytes_in : Wrote → List ℕ
@@ -54,7 +54,7 @@ pub record LineRows : Type 0 where
   -- a line of two givens, with zeros and a line feed, opens with solution G; after a mark and a digit of the player's
   -- it is written with full stops, into the front of 83 bytes
   pub comes_back :
-      write_line_of (after (started (open_g (bytes_in (read_line_of line_g room)))) (write_mark 1 1 5 ∷ place 1 3 7 ∷ [])).board (replicate 83 9)
+      write_line_of (after (started (open_g (bytes_in (read_line_of line_g room)))) (pencil 1 1 5 ∷ place 1 3 7 ∷ [])).board (replicate 83 9)
       ≡ wrote accepted 81 ((46 ∷ 50 ∷ replicate 78 46) ++ 56 ∷ 9 ∷ 9 ∷ [])
   pub opens : (open_g (bytes_in (read_line_of line_g room))).answer.refusal ≡ accepted
   -- 36: one character too few or too many, another byte than a line feed behind 81, a line feed more, nothing
