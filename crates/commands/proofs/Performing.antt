@@ -65,13 +65,12 @@ module _ (c : Request) (s : Session) where
       by_none (ap is_move e ∙ m) (ap is_undo e ∙ u) (ap is_check e ∙ k) (ap is_open e ∙ o) (ap is_puzzle e ∙ z)
 
 -- the verbs that name no call
-pub no_move : (v : Verb) → (v ≡ verb.Place → ⊥) → (v ≡ verb.Mark → ⊥) → (v ≡ verb.Strike → ⊥) → (v ≡ verb.Erase → ⊥) → is_move v ≡ false
+pub no_move : (v : Verb) → (v ≡ verb.Place → ⊥) → (v ≡ verb.Mark → ⊥) → (v ≡ verb.Erase → ⊥) → is_move v ≡ false
 unfolding is_move
-no_move verb.Place p m s e = absurd (p refl)
-no_move verb.Mark p m s e = absurd (m refl)
-no_move verb.Strike p m s e = absurd (s refl)
-no_move verb.Erase p m s e = absurd (e refl)
-no_move _ p m s e = refl
+no_move verb.Place p m e = absurd (p refl)
+no_move verb.Mark p m e = absurd (m refl)
+no_move verb.Erase p m e = absurd (e refl)
+no_move _ p m e = refl
 
 pub no_undo : (v : Verb) → (v ≡ verb.Undo → ⊥) → (v ≡ verb.Redo → ⊥) → is_undo v ≡ false
 unfolding is_undo

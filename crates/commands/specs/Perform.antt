@@ -3,9 +3,9 @@
 -- Assumes nothing.
 use Rattle.std.specs.Prelude.{ℕ, ◌≡◌, Bool, true, false, Option, Some, None, option_map, ltb, leb, eqb, unwrap_or}
 use Rattle.sudoku.specs.Tests.{pick, both}
-use Rattle.journal.specs.declared.Move.{Move}
-use Rattle.journal.specs.declared.Move.TheVariants.{Place, Erase, WriteMark, StrikeMark}
 use Rattle.board.specs.declared.Board.{Board}
+use Rattle.play.specs.declared.Play.{Play}
+use Rattle.play.specs.declared.Play.TheVariants.{Place, Erase, Pencil}
 use Rattle.calls.specs.declared.Call.{Call}
 use Rattle.calls.specs.declared.Call.TheVariants.{Make, Undo, Redo, Check}
 use Rattle.calls.specs.Session.{Session}
@@ -48,7 +48,6 @@ numbers_of c wanted =
 unfoldable pub is_move : Verb → Bool
 is_move verb.Place = true
 is_move verb.Mark = true
-is_move verb.Strike = true
 is_move verb.Erase = true
 is_move _ = false
 
@@ -57,14 +56,13 @@ unfoldable pub wanted_by : Verb → ℕ
 wanted_by verb.Erase = 2
 wanted_by _ = 3
 
-unfoldable pub move_named : Verb → Numbers → Move
-move_named verb.Place n = Place n.row n.column n.digit
-move_named verb.Mark n = WriteMark n.row n.column n.digit
-move_named verb.Strike n = StrikeMark n.row n.column n.digit
-move_named _ n = Erase n.row n.column
+unfoldable pub play_named : Verb → Numbers → Play
+play_named verb.Place n = Place n.row n.column n.digit
+play_named verb.Mark n = Pencil n.row n.column n.digit
+play_named _ n = Erase n.row n.column
 
 unfoldable pub move_call : Request → Option Call
-move_call c = option_map (λ n. Make (move_named c.verb n)) (numbers_of c (wanted_by c.verb))
+move_call c = option_map (λ n. Make (play_named c.verb n)) (numbers_of c (wanted_by c.verb))
 
 -- the call of a command that is a move
 unfoldable pub named_move : Request → Option Call

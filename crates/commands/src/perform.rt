@@ -11,9 +11,10 @@ ghost use Rattle.commands.specs.Perform.{narrowed, numbers_of, named_move, undo_
 use crate::Game;
 use board::{Answer, Board};
 use files::disk::save;
+use journal::Asked;
 use journal::slots::slot_at;
-use journal::{Asked, Move};
 use lines::{LINE_BYTES, write_line};
+use play::Play;
 use play::checks::check;
 use play::moves::play;
 use play::shown::{Latest, Next, Turn, slot_shown};
@@ -36,7 +37,6 @@ fn wants(verb: Verb) -> &'static str {
     match verb {
         Verb::Place => "place wants a row, a column and a digit, as in: place 1 3 4",
         Verb::Mark => "mark wants a row, a column and a digit, as in: mark 1 3 4",
-        Verb::Strike => "strike wants a row, a column and a digit, as in: strike 1 3 4",
         Verb::Erase => "erase wants a row and a column, as in: erase 1 3",
         Verb::Check => "check wants a row and a column, as in: check 1 3",
         Verb::Move => "move wants the number of a move, as in: move 1",
@@ -60,8 +60,7 @@ fn help() {
     say(
         b"place ROW COLUMN DIGIT   p   put a digit into a cell\n\
 erase ROW COLUMN         e   empty a cell\n\
-mark ROW COLUMN DIGIT    m   pencil a mark\n\
-strike ROW COLUMN DIGIT  s   strike a mark\n\
+mark ROW COLUMN DIGIT    m   pencil a mark, or strike it where it stands\n\
 undo                     u   take back the latest move\n\
 redo                     r   make the next undone move again\n\
 check ROW COLUMN         c   ask whether your digit is right; that is kept\n\
@@ -113,28 +112,23 @@ fn row_and_column(command: Command<'_>) -> Option<(u8, u8)>
     Some((byte(row)?, byte(column)?))
 }
 
-// The move that a command names; none where its words are not those that it wants, or one is no number.
-#[tactic(auto, unfolding(crate::specs::Perform::named_move, crate::specs::Perform::move_call, crate::specs::Perform::is_move, crate::specs::Perform::wanted_by, crate::specs::Perform::move_named, crate::specs::Perform::numbers_of, crate::specs::Perform::third_of, crate::specs::Perform::are_numbers, crate::specs::Perform::narrowed, texts::specs::Commands::said, sudoku::specs::Tests::pick))]
-fn move_of(command: Command<'_>) -> Option<Move>
+// What a command asks to play; none where its words are not those that it wants, or one is no number.
+#[tactic(auto, unfolding(crate::specs::Perform::named_move, crate::specs::Perform::move_call, crate::specs::Perform::is_move, crate::specs::Perform::wanted_by, crate::specs::Perform::play_named, crate::specs::Perform::numbers_of, crate::specs::Perform::third_of, crate::specs::Perform::are_numbers, crate::specs::Perform::narrowed, texts::specs::Commands::said, sudoku::specs::Tests::pick))]
+fn play_of(command: Command<'_>) -> Option<Play>
     ensures { option_map Make result ≡ named_move (request command.entry) }
 {
     match (command.verb, command.words) {
-        (Verb::Place, Words::Three(row, column, digit)) => Some(Move::Place {
+        (Verb::Place, Words::Three(row, column, digit)) => Some(Play::Place {
             row: byte(row)?,
             column: byte(column)?,
             digit: byte(digit)?,
         }),
-        (Verb::Mark, Words::Three(row, column, digit)) => Some(Move::WriteMark {
+        (Verb::Mark, Words::Three(row, column, digit)) => Some(Play::Pencil {
             row: byte(row)?,
             column: byte(column)?,
             digit: byte(digit)?,
         }),
-        (Verb::Strike, Words::Three(row, column, digit)) => Some(Move::StrikeMark {
-            row: byte(row)?,
-            column: byte(column)?,
-            digit: byte(digit)?,
-        }),
-        (Verb::Erase, Words::Two(row, column)) => Some(Move::Erase {
+        (Verb::Erase, Words::Two(row, column)) => Some(Play::Erase {
             row: byte(row)?,
             column: byte(column)?,
         }),
@@ -169,13 +163,13 @@ impl Game {
         }
     }
 
-    // One of the four moves.
+    // Place, erase or the pencil.
     #[tactic(auto, unfolding(calls::specs::Encoded::run_one, calls::specs::Session::call_of, calls::specs::Session::called))]
     fn make(&mut self, command: Command<'_>)
         ensures left { played self.new ≡ (run_one (played self.old) (named_move (request command.entry))).left }
         ensures coloured { self.new.coloured ≡ self.old.coloured }
     {
-        let Some(named) = move_of(command) else {
+        let Some(named) = play_of(command) else {
             want(command.verb);
             return;
         };
@@ -353,7 +347,7 @@ pub fn perform<R: Files>(rt: &R, game: &mut Game, command: Command<'_>)
     ensures coloured { game.new.coloured ≡ game.old.coloured }
 {
     match command.verb {
-        Verb::Place | Verb::Mark | Verb::Strike | Verb::Erase => game.make(command),
+        Verb::Place | Verb::Mark | Verb::Erase => game.make(command),
         Verb::Undo | Verb::Redo => game.step(command),
         Verb::Check => game.check(command),
         Verb::Open => game.open(rt, command),

@@ -4,7 +4,7 @@ use Rattle.std.specs.Prelude.{ℕ, ◌+◌, ◌-◌, ◌*◌, Bool, not, List, [
 use Rattle.std.specs.List.{position_or_len}
 use Rattle.sudoku.specs.Tests.{pick, both, either, bit, every, ◌⇒◌, first}
 use Rattle.texts.specs.declared.Verb.{Verb}
-use Rattle.texts.specs.declared.Verb.TheVariants.{Place, Erase, Mark, Strike, Undo, Redo, Check, Latest, Next, Move, Left, Board, Save, Open, Puzzle, Line, Help, Quit, NoWord, Unknown}
+use Rattle.texts.specs.declared.Verb.TheVariants.{Place, Erase, Mark, Undo, Redo, Check, Latest, Next, Move, Left, Board, Save, Open, Puzzle, Line, Help, Quit, NoWord, Unknown}
 use Rattle.texts.specs.declared.Words.{Words}
 use Rattle.texts.specs.declared.Words.TheVariants as words
 use Rattle.texts.specs.declared.Command.{Command}
@@ -47,15 +47,14 @@ with_figures n (byte ∷ text) = option_and_then (λ m. with_figures m text) (wi
 unfoldable pub number_of : List ℕ → Option ℕ
 number_of text = pick (eqb (length text) 0) None (with_figures 0 text)
 
--- the letters of the commands by their names; 0 for another name. Of play: place p, erase e, mark m, strike s, undo u,
--- redo r, check c
+-- the letters of the commands by their names; 0 for another name. Of play: place p, erase e, mark m, undo u, redo r,
+-- check c
 unfoldable pub verb_of_play : List ℕ → ℕ
 verb_of_play name =
     first
     ((is_same name (112 ∷ 108 ∷ 97 ∷ 99 ∷ 101 ∷ []) ⇒ 112)
     ∷ (is_same name (101 ∷ 114 ∷ 97 ∷ 115 ∷ 101 ∷ []) ⇒ 101)
     ∷ (is_same name (109 ∷ 97 ∷ 114 ∷ 107 ∷ []) ⇒ 109)
-    ∷ (is_same name (115 ∷ 116 ∷ 114 ∷ 105 ∷ 107 ∷ 101 ∷ []) ⇒ 115)
     ∷ (is_same name (117 ∷ 110 ∷ 100 ∷ 111 ∷ []) ⇒ 117)
     ∷ (is_same name (114 ∷ 101 ∷ 100 ∷ 111 ∷ []) ⇒ 114)
     ∷ (is_same name (99 ∷ 104 ∷ 101 ∷ 99 ∷ 107 ∷ []) ⇒ 99)
@@ -98,7 +97,6 @@ verb_of_letter letter =
     pick (eqb letter 112) Place
     (pick (eqb letter 101) Erase
     (pick (eqb letter 109) Mark
-    (pick (eqb letter 115) Strike
     (pick (eqb letter 117) Undo
     (pick (eqb letter 114) Redo
     (pick (eqb letter 99) Check
@@ -114,7 +112,7 @@ verb_of_letter letter =
     (pick (eqb letter 104) Help
     (pick (eqb letter 113) Quit
     (pick (eqb letter no_verb) NoWord
-    (pick (eqb letter 0) (Unknown None) (Unknown (Some letter)))))))))))))))))))))
+    (pick (eqb letter 0) (Unknown None) (Unknown (Some letter))))))))))))))))))))
 
 -- the command of the letter of a name; none where no name was found
 unfoldable pub found : ℕ → Option Verb

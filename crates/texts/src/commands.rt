@@ -79,7 +79,6 @@ fn verb_of_letter(letter: u8) -> Verb
         b'p' => Verb::Place,
         b'e' => Verb::Erase,
         b'm' => Verb::Mark,
-        b's' => Verb::Strike,
         b'u' => Verb::Undo,
         b'r' => Verb::Redo,
         b'c' => Verb::Check,
@@ -101,11 +100,10 @@ fn verb_of_letter(letter: u8) -> Verb
 }
 
 // The commands by their names.
-const NAMES: [(&[u8], Verb); 18] = [
+const NAMES: [(&[u8], Verb); 17] = [
     (b"place", Verb::Place),
     (b"erase", Verb::Erase),
     (b"mark", Verb::Mark),
-    (b"strike", Verb::Strike),
     (b"undo", Verb::Undo),
     (b"redo", Verb::Redo),
     (b"check", Verb::Check),

@@ -23,7 +23,6 @@ pub enum Verb {
     Place,
     Erase,
     Mark,
-    Strike,
     Undo,
     Redo,
     Check,

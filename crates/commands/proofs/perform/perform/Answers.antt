@@ -13,8 +13,7 @@ unfolding is_move is_open is_puzzle
 returns-in-Place-clause-performed g c =
     let move = by_move (request c.args.command) (played c.args.game.now) (played c.make.new.self) in
     ⊎_elim (move verb.Place refl refl refl c.make.ensures.left)
-    (⊎_elim (move verb.Mark refl refl refl c.make.ensures.left)
-    (⊎_elim (move verb.Strike refl refl refl c.make.ensures.left) (move verb.Erase refl refl refl c.make.ensures.left)))
+    (⊎_elim (move verb.Mark refl refl refl c.make.ensures.left) (move verb.Erase refl refl refl c.make.ensures.left))
     c.in-Place.is
 
 pub returns-in-Undo-clause-performed : goal.returns-in-Undo-clause-performed
@@ -47,7 +46,7 @@ returns-in_default-clause-performed g c =
     let none = c.in_default in
     let v = c.args.command.verb in
     by_none (request c.args.command) (played c.args.game.now)
-    (no_move v none.not-Place none.not-Mark none.not-Strike none.not-Erase)
+    (no_move v none.not-Place none.not-Mark none.not-Erase)
     (no_undo v none.not-Undo none.not-Redo)
     (no_check_lem v none.not-Check)
     (no_open v none.not-Open)
