@@ -4,7 +4,7 @@ use crate::pair::{Call, Ours, heading, line, make, median_and_worst};
 use crate::puzzle::{Puzzle, column, peers, position, row};
 use crate::sitting::Dice;
 use original::board::Board as Theirs;
-use pawdoku::sys;
+use pawdoku::{kind, sys};
 use std::cell::Cell;
 use std::hint::black_box;
 use std::time::Instant;
@@ -88,12 +88,12 @@ impl Boards<'_> {
         if pencilled {
             self.pencil();
         }
-        self.call("write mark", Call::Write);
+        self.call("pencil, writes", Call::Write);
         self.call("undo of a mark", |_, _| Call::Undo);
         self.call("redo of a mark", |_, _| Call::Redo);
         self.time("undo of a mark, the answer copied", |b, _| make(b, Call::Undo), |b, _| b.undo_and_copy());
         self.time("redo of a mark, the answer copied", |b, _| make(b, Call::Redo), |b, _| b.redo_and_copy());
-        self.call("strike mark", Call::Strike);
+        self.call("pencil, strikes", Call::Strike);
         self.call("place", Call::Place);
         self.call("undo of a place", |_, _| Call::Undo);
         self.call("redo of a place", |_, _| Call::Redo);
@@ -120,6 +120,17 @@ impl Boards<'_> {
         );
         self.call("erase", |cell, _| Call::Erase(cell));
         self.call("undo of an erase", |_, _| Call::Undo);
+        self.made_what_they_say();
+    }
+
+    /// The pencil is accepted whatever it does, so what it did is seen here, behind all that is timed: the last four
+    /// moves of each board are those of the rows.
+    fn made_what_they_say(&self) {
+        for ours in &self.ours {
+            let slots = ours.journal[..8 * ours.board().made].rchunks(8);
+            let kinds = slots.map(|slot| slot[0]).take(4);
+            assert!(kinds.eq([kind::ERASE, kind::PLACE, kind::STRIKE_MARK, kind::WRITE_MARK]));
+        }
     }
 }
 

@@ -82,8 +82,9 @@ impl Ours {
         match call {
             Call::Place(cell, digit) => sys::place_on(answer, journal, row(cell), column(cell), digit),
             Call::Erase(cell) => sys::erase_on(answer, journal, row(cell), column(cell)),
-            Call::Write(cell, digit) => sys::write_mark_on(answer, journal, row(cell), column(cell), digit),
-            Call::Strike(cell, digit) => sys::strike_mark_on(answer, journal, row(cell), column(cell), digit),
+            Call::Write(cell, digit) | Call::Strike(cell, digit) => {
+                sys::pencil_on(answer, journal, row(cell), column(cell), digit);
+            }
             Call::Undo => sys::undo_on(answer, journal),
             Call::Redo => sys::redo_on(answer, journal),
             Call::Check(cell) => {
@@ -96,11 +97,16 @@ impl Ours {
 }
 
 /// A call that both accept.
+///
+/// The library has one for `Write` and `Strike`, the pencil, which looks itself whether the mark is present. The
+/// original has two, and is given the one that fits: the time that its host takes to look is in no table.
 #[derive(Clone, Copy)]
 pub enum Call {
     Place(usize, u8),
     Erase(usize),
+    /// A mark that is absent.
     Write(usize, u8),
+    /// A mark that is present.
     Strike(usize, u8),
     Undo,
     Redo,
@@ -113,8 +119,7 @@ impl Call {
         match self {
             Self::Place(cell, digit) => [call::PLACE, row(cell), column(cell), digit],
             Self::Erase(cell) => [call::ERASE, row(cell), column(cell), 0],
-            Self::Write(cell, digit) => [call::WRITE_MARK, row(cell), column(cell), digit],
-            Self::Strike(cell, digit) => [call::STRIKE_MARK, row(cell), column(cell), digit],
+            Self::Write(cell, digit) | Self::Strike(cell, digit) => [call::PENCIL, row(cell), column(cell), digit],
             Self::Undo => [call::UNDO, 0, 0, 0],
             Self::Redo => [call::REDO, 0, 0, 0],
             Self::Check(cell) => [call::CHECK, row(cell), column(cell), 0],

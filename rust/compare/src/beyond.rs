@@ -113,8 +113,8 @@ fn all_answer(number: u8, bench: &mut Bench, lengths: [usize; 3]) -> Compared {
     let answers = [
         sys::place(board, journal, 1, 1, 1),
         sys::erase(board, journal, 0, 1),
-        sys::write_mark(board, journal, 1, 1, 1),
-        sys::strike_mark(board, journal, 1, 1, 10),
+        sys::pencil(board, journal, 1, 1, 1),
+        sys::pencil(board, journal, 1, 1, 10),
         sys::undo(board, journal),
         sys::redo(board, journal),
     ];
@@ -246,13 +246,14 @@ impl Bench<'_> {
 
     /// A list is run: each of its calls is refused by 2, and bytes that are no call by 255.
     fn list_on_a_foreign_board(&mut self) -> Compared {
-        let mut answers = [0x5a; 16];
+        let mut answers = [0x5a; 24];
         let memory = &mut self.memory;
-        let calls = [call::PLACE, 1, 1, 1, call::UNDO, 0, 0, 0, call::CHECK, 0, 1, 0, 9, 1, 1, 1];
+        let known = [[call::PLACE, 1, 1, 1], [call::PENCIL, 1, 1, 10], [call::UNDO, 0, 0, 0], [call::CHECK, 0, 1, 0]];
+        let calls = [known.as_flattened(), &[9, 1, 1, 1], &[kind::WRITE_MARK, 1, 1, 1]].concat();
         let answer = sys::play(&self.board, &mut memory.journal, &mut memory.checks, &calls, &mut answers);
         same("the board after a list on a foreign board", &self.board, &answer.board)?;
-        let expected = [2, 0, 0, 0, 2, 0, 0, 0, 2, 0, 0, 0, 255, 0, 0, 0];
-        same("answers of a list on a foreign board", &expected, &answers)?;
+        let expected = [[2, 0, 0, 0], [2, 0, 0, 0], [2, 0, 0, 0], [2, 0, 0, 0], [255, 0, 0, 0], [255, 0, 0, 0]];
+        same_bytes("answers of a list on a foreign board", expected.as_flattened(), &answers)?;
         self.refused(answer.refusal, 0)
     }
 

@@ -10,10 +10,8 @@ pub enum Call {
     Place(u8, u8, u8),
     /// Erase: row, column.
     Erase(u8, u8),
-    /// Write a mark: row, column, digit.
-    WriteMark(u8, u8, u8),
-    /// Strike a mark: row, column, digit.
-    StrikeMark(u8, u8, u8),
+    /// The pencil, which strikes a mark that is present and writes one that is absent: row, column, digit.
+    Pencil(u8, u8, u8),
     /// Undo.
     Undo,
     /// Redo.
@@ -28,17 +26,16 @@ impl Call {
         match self {
             Self::Place(row, column, digit) => [call::PLACE, row, column, digit],
             Self::Erase(row, column) => [call::ERASE, row, column, 0],
-            Self::WriteMark(row, column, digit) => [call::WRITE_MARK, row, column, digit],
-            Self::StrikeMark(row, column, digit) => [call::STRIKE_MARK, row, column, digit],
+            Self::Pencil(row, column, digit) => [call::PENCIL, row, column, digit],
             Self::Undo => [call::UNDO, 0, 0, 0],
             Self::Redo => [call::REDO, 0, 0, 0],
             Self::Check(row, column) => [call::CHECK, row, column, 0],
         }
     }
 
-    /// Is it one of the four that are recorded?
+    /// Is it one of the three that are recorded?
     pub const fn is_move(self) -> bool {
-        matches!(self, Self::Place(..) | Self::Erase(..) | Self::WriteMark(..) | Self::StrikeMark(..))
+        matches!(self, Self::Place(..) | Self::Erase(..) | Self::Pencil(..))
     }
 }
 
@@ -47,8 +44,7 @@ impl fmt::Display for Call {
         match self {
             Self::Place(row, column, digit) => write!(to, "place {row} {column} {digit}"),
             Self::Erase(row, column) => write!(to, "erase {row} {column}"),
-            Self::WriteMark(row, column, digit) => write!(to, "write mark {row} {column} {digit}"),
-            Self::StrikeMark(row, column, digit) => write!(to, "strike mark {row} {column} {digit}"),
+            Self::Pencil(row, column, digit) => write!(to, "pencil {row} {column} {digit}"),
             Self::Undo => write!(to, "undo"),
             Self::Redo => write!(to, "redo"),
             Self::Check(row, column) => write!(to, "check {row} {column}"),

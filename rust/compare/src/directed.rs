@@ -1,14 +1,14 @@
 //! Directed sessions and records: the twelve positions of document 01, the ends a board can come to, the limits, and
 //! two faults at once. What document 01 says of each stands here too, so that both sides are held to it.
 
-use crate::bytes::{Check, Items, Move, refusal};
+use crate::bytes::{ACCEPTED, Check, Items, Move, refusal};
 use crate::call::Call;
 use crate::grid::{Grid, cell_of, g, givens_of, peers, position_of};
 use crate::pair::{self, Compared, Pair};
 use crate::plant::Plant;
 use crate::report::{Counts, same, same_bytes};
 use crate::script::Step;
-use pawdoku::{Refusal, kind};
+use pawdoku::{Refusal, call, kind};
 
 /// A directed session: what it is, and its run.
 pub type Case = (&'static str, fn(&mut Stage) -> Compared);
@@ -92,6 +92,9 @@ pub const CASES: &[Case] = &[
     ("two reasons for one call", two_reasons),
     ("notes under digits", notes_under_digits),
     ("a new move drops the undone ones", dropped_moves),
+    ("the pencil pressed again", pressed_again),
+    ("the first byte of an encoded call", first_bytes),
+    ("a record's marks keep their rules", marks_of_a_record),
     ("inner numbers of a refused move", inner_of_moves),
     ("inner numbers of a refused check", inner_of_checks),
     ("two faults in one record", two_faults),
@@ -154,7 +157,7 @@ fn c(stage: &mut Stage) -> Compared {
 fn d(stage: &mut Stage) -> Compared {
     let mut pair = stage.e()?;
     stage.call(&mut pair, Call::Place(5, 5, 10), 8)?;
-    stage.call(&mut pair, Call::StrikeMark(5, 5, 10), 11)?;
+    stage.call(&mut pair, Call::Pencil(5, 5, 10), 8)?;
     stage.finish(pair)
 }
 
@@ -162,7 +165,7 @@ fn e(stage: &mut Stage) -> Compared {
     let mut pair = stage.e()?;
     for &peer in peers(cell_of(5, 5)) {
         let (row, column) = position_of(peer);
-        stage.call(&mut pair, Call::WriteMark(row, column, 5), 0)?;
+        stage.call(&mut pair, Call::Pencil(row, column, 5), 0)?;
     }
     let notes = pair.ours.board.notes;
     stage.call(&mut pair, Call::Place(5, 5, 5), 0)?;
@@ -175,7 +178,7 @@ fn e(stage: &mut Stage) -> Compared {
 fn f(stage: &mut Stage) -> Compared {
     let mut pair = stage.e()?;
     stage.call(&mut pair, Call::Place(1, 1, 5), 0)?;
-    stage.call(&mut pair, Call::WriteMark(1, 2, 3), 0)?;
+    stage.call(&mut pair, Call::Pencil(1, 2, 3), 0)?;
     stage.call(&mut pair, Call::Undo, 0)?;
     stage.call(&mut pair, Call::Check(1, 1), 0)?;
     let record = pair.ours.write().map_err(|refused| refused.to_string())?;
@@ -215,13 +218,20 @@ fn j(stage: &mut Stage) -> Compared {
 
 fn k(stage: &mut Stage) -> Compared {
     let mut pair = stage.e()?;
-    for _ in 0..512 {
-        stage.call(&mut pair, Call::WriteMark(1, 1, 1), 0)?;
-        stage.call(&mut pair, Call::StrikeMark(1, 1, 1), 0)?;
+    // Odd presses write the mark, even ones strike it.
+    for press in 1..=1024 {
+        stage.call(&mut pair, Call::Pencil(1, 1, 1), 0)?;
+        same("the note", &((press % 2) << 1), &pair.ours.board.notes[0])?;
     }
-    stage.call(&mut pair, Call::WriteMark(1, 1, 1), 15)?;
+    stage.call(&mut pair, Call::Pencil(1, 1, 1), 15)?;
     stage.call(&mut pair, Call::Undo, 0)?;
-    stage.call(&mut pair, Call::StrikeMark(1, 1, 1), 0)?;
+    stage.call(&mut pair, Call::Pencil(1, 1, 1), 0)?;
+    same_bytes("slot 1,024", &[5, 1, 1, 1, 0, 0, 0, 0], &pair.ours.memory.journal[8184..])?;
+    // With the mark present the journal is full too, and 8 comes first.
+    stage.call(&mut pair, Call::Undo, 0)?;
+    stage.call(&mut pair, Call::Pencil(1, 1, 2), 0)?;
+    stage.call(&mut pair, Call::Pencil(1, 1, 2), 15)?;
+    stage.call(&mut pair, Call::Pencil(1, 1, 10), 8)?;
     stage.finish(pair)
 }
 
@@ -320,8 +330,9 @@ fn at_the_limits(stage: &mut Stage, pair: &mut Pair) -> Compared {
     stage.call(pair, Call::Place(1, 1, 2), 5)?;
     stage.call(pair, Call::Place(10, 1, 2), 3)?;
     stage.call(pair, Call::Erase(1, 1), 6)?;
-    stage.call(pair, Call::WriteMark(9, 9, 2), 7)?;
-    stage.call(pair, Call::StrikeMark(9, 9, 2), 7)?;
+    stage.call(pair, Call::Pencil(9, 9, 2), 7)?;
+    stage.call(pair, Call::Pencil(9, 9, 10), 7)?;
+    stage.call(pair, Call::Pencil(9, 10, 2), 3)?;
     stage.call(pair, Call::Check(9, 9), 16)?;
     stage.call(pair, Call::Check(1, 1), 6)?;
     stage.call(pair, Call::Check(0, 0), 3)?;
@@ -346,7 +357,7 @@ fn the_longest_session(stage: &mut Stage) -> Compared {
     let mut pair = stage.e()?;
     for n in 0..729 {
         let (row, column) = position_of(n / 9 + 1);
-        stage.call(&mut pair, Call::WriteMark(row, column, u8::try_from(n % 9 + 1).unwrap_or(1)), 0)?;
+        stage.call(&mut pair, Call::Pencil(row, column, u8::try_from(n % 9 + 1).unwrap_or(1)), 0)?;
     }
     for n in 0..295 {
         let (row, column) = position_of(n % 80 + 1);
@@ -358,7 +369,8 @@ fn the_longest_session(stage: &mut Stage) -> Compared {
         stage.call(&mut pair, Call::Check(row, column), 0)?;
     }
     stage.call(&mut pair, Call::Check(1, 1), 16)?;
-    stage.call(&mut pair, Call::StrikeMark(9, 9, 1), 11)?;
+    stage.call(&mut pair, Call::Pencil(9, 9, 10), 8)?;
+    stage.call(&mut pair, Call::Pencil(9, 9, 1), 15)?;
     stage.call(&mut pair, Call::Place(9, 9, 1), 15)?;
     pair.step(Step::All, stage.counts)?;
     all_the_way_back(stage, pair)
@@ -369,14 +381,13 @@ fn the_longest_session(stage: &mut Stage) -> Compared {
 fn all_on_solved(stage: &mut Stage) -> Compared {
     let mut pair = stage.l()?;
     stage.call(&mut pair, Call::Check(9, 9), 6)?;
-    stage.call(&mut pair, Call::WriteMark(9, 9, 1), 0)?;
+    stage.call(&mut pair, Call::Pencil(9, 9, 1), 0)?;
     stage.call(&mut pair, Call::Undo, 0)?;
     stage.call(&mut pair, Call::Place(9, 9, 8), 0)?;
     for (row, column) in [(9, 9), (1, 1)] {
         for digit in [0, 1, 8, 10] {
             stage.call(&mut pair, Call::Place(row, column, digit), 4)?;
-            stage.call(&mut pair, Call::WriteMark(row, column, digit), 4)?;
-            stage.call(&mut pair, Call::StrikeMark(row, column, digit), 4)?;
+            stage.call(&mut pair, Call::Pencil(row, column, digit), 4)?;
         }
         stage.call(&mut pair, Call::Erase(row, column), 4)?;
         stage.call(&mut pair, Call::Check(row, column), 4)?;
@@ -384,8 +395,8 @@ fn all_on_solved(stage: &mut Stage) -> Compared {
     for (row, column) in [(0, 1), (1, 0), (10, 9), (9, 10), (255, 255)] {
         stage.call(&mut pair, Call::Place(row, column, 0), 3)?;
         stage.call(&mut pair, Call::Erase(row, column), 3)?;
-        stage.call(&mut pair, Call::WriteMark(row, column, 1), 3)?;
-        stage.call(&mut pair, Call::StrikeMark(row, column, 1), 3)?;
+        stage.call(&mut pair, Call::Pencil(row, column, 1), 3)?;
+        stage.call(&mut pair, Call::Pencil(row, column, 10), 3)?;
         stage.call(&mut pair, Call::Check(row, column), 3)?;
         pair.step(Step::Cell(row, column), stage.counts)?;
     }
@@ -398,28 +409,29 @@ fn two_reasons(stage: &mut Stage) -> Compared {
     let mut pair = stage.open(&givens_of(&g(), 1..=40), &g())?;
     stage.call(&mut pair, Call::Place(1, 1, 10), 5)?;
     stage.call(&mut pair, Call::Place(1, 1, g()[0]), 5)?;
-    stage.call(&mut pair, Call::WriteMark(1, 1, 10), 7)?;
-    stage.call(&mut pair, Call::StrikeMark(1, 1, 10), 7)?;
+    stage.call(&mut pair, Call::Pencil(1, 1, 10), 7)?;
+    stage.call(&mut pair, Call::Pencil(1, 1, 0), 7)?;
     stage.call(&mut pair, Call::Erase(1, 1), 6)?;
     stage.call(&mut pair, Call::Erase(9, 9), 6)?;
     stage.call(&mut pair, Call::Check(1, 1), 6)?;
     stage.call(&mut pair, Call::Check(9, 9), 6)?;
-    stage.call(&mut pair, Call::WriteMark(9, 9, 0), 8)?;
-    stage.call(&mut pair, Call::WriteMark(9, 9, 9), 0)?;
-    stage.call(&mut pair, Call::WriteMark(9, 9, 9), 10)?;
-    stage.call(&mut pair, Call::StrikeMark(9, 9, 0), 11)?;
-    stage.call(&mut pair, Call::StrikeMark(9, 9, 8), 11)?;
+    stage.call(&mut pair, Call::Pencil(9, 9, 0), 8)?;
+    stage.call(&mut pair, Call::Pencil(9, 9, 10), 8)?;
+    stage.call(&mut pair, Call::Pencil(9, 9, 9), 0)?;
+    stage.call(&mut pair, Call::Pencil(9, 9, 10), 8)?;
     stage.call(&mut pair, Call::Place(9, 9, 9), 0)?;
-    stage.call(&mut pair, Call::WriteMark(9, 9, 9), 7)?;
-    stage.call(&mut pair, Call::StrikeMark(9, 9, 9), 7)?;
+    // Under the digit one mark is kept and the others are absent: 7 all the same, and before 8.
+    for digit in [0, 8, 9, 10, 255] {
+        stage.call(&mut pair, Call::Pencil(9, 9, digit), 7)?;
+    }
     stage.finish(pair)
 }
 
 fn notes_under_digits(stage: &mut Stage) -> Compared {
     let mut pair = stage.e()?;
     for digit in 1..=9 {
-        stage.call(&mut pair, Call::WriteMark(5, 5, digit), 0)?;
-        stage.call(&mut pair, Call::WriteMark(5, 6, digit), 0)?;
+        stage.call(&mut pair, Call::Pencil(5, 5, digit), 0)?;
+        stage.call(&mut pair, Call::Pencil(5, 6, digit), 0)?;
     }
     stage.call(&mut pair, Call::Place(5, 5, 3), 0)?;
     same("the target keeps its own note", &0b11_1111_1110, &pair.ours.board.notes[cell_of(5, 5) - 1])?;
@@ -439,7 +451,7 @@ fn notes_under_digits(stage: &mut Stage) -> Compared {
 fn dropped_moves(stage: &mut Stage) -> Compared {
     let mut pair = stage.e()?;
     for digit in 1..=9 {
-        stage.call(&mut pair, Call::WriteMark(1, digit, digit), 0)?;
+        stage.call(&mut pair, Call::Pencil(1, digit, digit), 0)?;
     }
     for _ in 0..6 {
         stage.call(&mut pair, Call::Undo, 0)?;
@@ -455,7 +467,90 @@ fn dropped_moves(stage: &mut Stage) -> Compared {
     stage.finish(pair)
 }
 
+// The pencil.
+
+/// A key that bounces: the second press strikes what the first wrote, the third writes it again. Each is a move.
+fn pressed_again(stage: &mut Stage) -> Compared {
+    let mut pair = stage.e()?;
+    let cell = cell_of(5, 5) - 1;
+    for (press, note) in [(1, 0b1000), (2, 0), (3, 0b1000)] {
+        stage.call(&mut pair, Call::Pencil(5, 5, 3), 0)?;
+        same("made and the note", &(press, note), &(pair.ours.board.made, pair.ours.board.notes[cell]))?;
+    }
+    let slots = [4, 5, 5, 3, 0, 0, 0, 0, 5, 5, 5, 3, 0, 0, 0, 0, 4, 5, 5, 3, 0, 0, 0, 0];
+    same_bytes("the slots", &slots, &pair.ours.memory.journal[..24])?;
+    pair.step(Step::All, stage.counts)?;
+    pair.step(Step::Reopen, stage.counts)?;
+    for note in [0, 0b1000, 0] {
+        stage.call(&mut pair, Call::Undo, 0)?;
+        same("the note after undo", &note, &pair.ours.board.notes[cell])?;
+    }
+    stage.call(&mut pair, Call::Undo, 12)?;
+    stage.call(&mut pair, Call::Redo, 0)?;
+    // The other marks of the note stay, and an undone press is gone with the next one.
+    stage.call(&mut pair, Call::Pencil(5, 5, 9), 0)?;
+    stage.call(&mut pair, Call::Pencil(5, 5, 3), 0)?;
+    let board = &pair.ours.board;
+    same("made and the note", &(3, 1 << 9), &(board.made, board.notes[cell]))?;
+    stage.call(&mut pair, Call::Redo, 13)?;
+    stage.finish(pair)
+}
+
+/// The six first bytes that encode a call, and what each answers for (1,1), which holds a 5, and then for (1,2), which
+/// is empty; all others answer 255 and change nothing, the kinds of a move among them.
+const FIRST_BYTES: [(u8, [u8; 2]); 6] = [
+    (call::PLACE, [0, 0]),
+    (call::ERASE, [0, 6]),
+    (call::PENCIL, [7, 0]),
+    (call::UNDO, [0, 12]),
+    (call::REDO, [0, 13]),
+    (call::CHECK, [0, 6]),
+];
+
+fn first_bytes(stage: &mut Stage) -> Compared {
+    let mut pair = stage.e()?;
+    for call in [Call::Place(1, 1, 5), Call::Pencil(1, 2, 3), Call::Undo] {
+        stage.call(&mut pair, call, 0)?;
+    }
+    for first in 0..=255 {
+        let known = FIRST_BYTES.iter().find(|(byte, _)| *byte == first);
+        let [one, two] = known.map_or([255; 2], |(_, numbers)| *numbers);
+        let mut ours = pair.ours.clone();
+        let mut answers = [0x5a; 8];
+        let said = ours.play(&[first, 1, 1, 3, first, 1, 2, 3], &mut answers);
+        stage.counts.refused(refusal(one, 0, 0));
+        stage.counts.beyond += 2;
+        same("the list", &ACCEPTED, &said)?;
+        same_bytes(&format!("answers of first byte {first}"), &[one, 0, 0, 0, two, 0, 0, 0], &answers)?;
+        let stays = (&ours.board, &ours.memory) == (&pair.ours.board, &pair.ours.memory);
+        same(&format!("first byte {first} changes nothing"), &known.is_none(), &stays)?;
+    }
+    stage.finish(pair)
+}
+
 // Records.
+
+/// What the pencil wrote and struck, and the same with one kind exchanged: replay asks each kind its own rule.
+fn marks_of_a_record(stage: &mut Stage) -> Compared {
+    let (write, strike) = (made(kind::WRITE_MARK, 5, 5, 3), made(kind::STRIKE_MARK, 5, 5, 3));
+    let no_digit = |kind| made(kind, 5, 5, 10);
+    let pair = stage.reopen(&record(&[], &[write, strike, write], 0, &[]), &g())?;
+    same("the note", &0b1000, &pair.ours.board.notes[cell_of(5, 5) - 1])?;
+    let faults: [(&[Move], usize, u8); 8] = [
+        (&[strike, strike, write], 1, 11),
+        (&[write, write, write], 2, 10),
+        (&[write, strike, strike], 3, 11),
+        (&[no_digit(kind::STRIKE_MARK)], 1, 11),
+        (&[no_digit(kind::WRITE_MARK)], 1, 8),
+        (&[write, placed(5, 5, 9), strike], 3, 7),
+        (&[write, placed(5, 5, 9), write], 3, 7),
+        (&[placed(5, 5, 9), no_digit(kind::STRIKE_MARK)], 2, 7),
+    ];
+    for (moves, place, inner) in faults {
+        stage.not_reopened(&record(&[], moves, 0, &[]), &g(), refusal(29, place, inner))?;
+    }
+    Ok(())
+}
 
 fn inner_of_moves(stage: &mut Stage) -> Compared {
     let givens = givens_of(&g(), 1..=40);
@@ -468,11 +563,14 @@ fn inner_of_moves(stage: &mut Stage) -> Compared {
         (6, made(kind::ERASE, 9, 8, 0)),
         (7, made(kind::WRITE_MARK, 9, 9, 10)),
         (7, made(kind::STRIKE_MARK, 1, 1, 1)),
+        (7, made(kind::STRIKE_MARK, 9, 9, 10)),
         (8, placed(9, 9, 0)),
+        (8, made(kind::WRITE_MARK, 9, 1, 10)),
         (8, made(kind::WRITE_MARK, 9, 1, 255)),
         (9, placed(9, 9, 1)),
         (10, made(kind::WRITE_MARK, 9, 1, 5)),
         (11, made(kind::STRIKE_MARK, 9, 1, 6)),
+        (11, made(kind::STRIKE_MARK, 9, 1, 0)),
         (11, made(kind::STRIKE_MARK, 9, 1, 10)),
     ];
     for (inner, fault) in faults {
@@ -605,7 +703,7 @@ fn checks_of_undone_lines(stage: &mut Stage) -> Compared {
     for _ in 0..9 {
         stage.call(&mut pair, Call::Undo, 0)?;
     }
-    stage.call(&mut pair, Call::WriteMark(1, 1, 1), 0)?;
+    stage.call(&mut pair, Call::Pencil(1, 1, 1), 0)?;
     same("one move, and a check with standing 9", &(1, 1), &(pair.ours.board.made, pair.ours.board.checks))?;
     pair.step(Step::Reopen, stage.counts)?;
     same_bytes("the check", &[9, 0, 9, 9, 9, 0], &pair.ours.memory.checks[..6])?;

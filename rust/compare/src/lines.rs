@@ -211,9 +211,9 @@ impl Mail<'_> {
         for _ in 0..self.rng.within(0, 120) {
             let (at, any) = (self.rng.below(81), self.rng.byte() % 11);
             let (row, column) = position_of(at + 1);
-            let kind = self.rng.within(usize::from(call::PLACE), usize::from(call::REDO));
-            let kind = if self.rng.percent(30) { call::PLACE } else { u8::try_from(kind).unwrap_or(0) };
-            calls.extend([kind, row, column, self.rng.pick(&[solution[at], any])]);
+            let each = [call::PLACE, call::ERASE, call::PENCIL, call::UNDO, call::REDO, call::CHECK];
+            let which = if self.rng.percent(30) { call::PLACE } else { self.rng.pick(&each) };
+            calls.extend([which, row, column, self.rng.pick(&[solution[at], any])]);
         }
         let mut answers = vec![0; calls.len()];
         ours.play(&calls, &mut answers);

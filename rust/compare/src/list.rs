@@ -62,7 +62,7 @@ fn run_piece(ours: &mut Ours, calls: &[[u8; 4]], answers: &[[u8; 4]], rng: &mut 
     let (mut bytes, mut expected) = (Vec::new(), Vec::new());
     for (call, answer) in calls.iter().zip(answers) {
         if rng.percent(5) {
-            bytes.extend([rng.pick(&[0, 1, 9, 10, 255]), rng.byte(), rng.byte(), rng.byte()]);
+            bytes.extend(no_call(*call, rng));
             expected.extend([255, 0, 0, 0]);
             counts.refused(refusal(255, 0, 0));
         }
@@ -78,6 +78,15 @@ fn run_piece(ours: &mut Ours, calls: &[[u8; 4]], answers: &[[u8; 4]], rng: &mut 
     counts.listed += calls.len() as u64;
     same("the list of calls", &ACCEPTED, &said)?;
     same_bytes("answers of the list of calls", &expected, &found)
+}
+
+/// A group that encodes no call: often by 2 to 8, the numbers of versions 1 to 3, four of them the kinds of a move. In
+/// half of them the rest is that of the next call, so that a number taken for a call after all does something.
+fn no_call([_, row, column, digit]: [u8; 4], rng: &mut Rng) -> [u8; 4] {
+    let any = rng.byte();
+    let other = if (call::PLACE..=call::CHECK).contains(&any) { 0 } else { any };
+    let first = rng.pick(&[2, 3, 4, 5, 6, 7, 8, call::PLACE - 1, call::CHECK + 1, other, other, other]);
+    if rng.percent(50) { [first, row, column, digit] } else { [first, rng.byte(), rng.byte(), rng.byte()] }
 }
 
 /// A call's bytes, with anything in those that it does not use.

@@ -72,8 +72,7 @@ impl Ours {
         match call {
             Call::Place(row, column, digit) => sys::place_on(laid, &mut memory.journal, row, column, digit),
             Call::Erase(row, column) => sys::erase_on(laid, &mut memory.journal, row, column),
-            Call::WriteMark(row, column, digit) => sys::write_mark_on(laid, &mut memory.journal, row, column, digit),
-            Call::StrikeMark(row, column, digit) => sys::strike_mark_on(laid, &mut memory.journal, row, column, digit),
+            Call::Pencil(row, column, digit) => sys::pencil_on(laid, &mut memory.journal, row, column, digit),
             Call::Undo => sys::undo_on(laid, &memory.journal),
             Call::Redo => sys::redo_on(laid, &memory.journal),
             Call::Check(row, column) => {

@@ -1,7 +1,7 @@
 //! The library and the original side by side: each step is made on both, and everything that can be seen afterwards
 //! is compared.
 
-use crate::bytes::{ACCEPTED, Items, Move, ascend, refusal};
+use crate::bytes::{ACCEPTED, Items, ascend, refusal};
 use crate::call::Call;
 use crate::grid::{Grid, cell_of, position_of};
 use crate::list::List;
@@ -12,7 +12,7 @@ use crate::script::Step;
 use crate::stored;
 use crate::theirs::{Reading, State, Theirs, slot_of};
 use pawdoku::sys::{self, CellAnswer, KeypadAnswer, ReadingAnswer, Shown, YesNo};
-use pawdoku::{Board, MAX_CHECKS, MAX_MOVES, Refusal};
+use pawdoku::{Board, MAX_CHECKS, MAX_MOVES, Refusal, kind};
 
 /// What differs, in words.
 pub type Compared<T = ()> = Result<T, String>;
@@ -132,6 +132,7 @@ impl Pair {
             counts.accepted += 1;
             self.state = self.theirs.state();
             self.note_in(&mut memory, call, &was, verdict);
+            self.count_marks(call, counts);
         } else {
             same("the board after a refused call", &board, &self.ours.board)?;
         }
@@ -166,16 +167,26 @@ impl Pair {
 
     /// Puts what an accepted call stores into what the memory was.
     fn note_in(&self, memory: &mut Memory, call: Call, was: &State, verdict: u8) {
-        let [kind, row, column, digit] = call.encoded();
-        if call.is_move() {
-            let made = Move { kind, row, column, digit };
-            let slot = slot_of(made, (&was.digits, &was.notes), &self.state.notes);
-            memory.journal[8 * was.standing..8 * was.standing + 8].copy_from_slice(&slot);
-        } else if let Call::Check(row, column) = call {
-            let [low, high, ..] = was.standing.to_le_bytes();
-            let digit = was.digits[cell_of(row, column) - 1];
-            let check = [low, high, row, column, digit, verdict];
-            memory.checks[6 * was.checks..6 * was.checks + 6].copy_from_slice(&check);
+        match (call, self.state.latest) {
+            (Call::Check(row, column), _) => {
+                let [low, high, ..] = was.standing.to_le_bytes();
+                let digit = was.digits[cell_of(row, column) - 1];
+                let check = [low, high, row, column, digit, verdict];
+                memory.checks[6 * was.checks..6 * was.checks + 6].copy_from_slice(&check);
+            }
+            (call, Some(made)) if call.is_move() => {
+                let slot = slot_of(made, (&was.digits, &was.notes), &self.state.notes);
+                memory.journal[8 * was.standing..8 * was.standing + 8].copy_from_slice(&slot);
+            }
+            _ => {}
+        }
+    }
+
+    /// Which of the two the pencil did, as the original keeps it.
+    fn count_marks(&self, call: Call, counts: &mut Counts) {
+        if let (Call::Pencil(..), Some(made)) = (call, self.state.latest) {
+            counts.marks_written += u64::from(made.kind == kind::WRITE_MARK);
+            counts.marks_struck += u64::from(made.kind == kind::STRIKE_MARK);
         }
     }
 

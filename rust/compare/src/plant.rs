@@ -57,11 +57,13 @@ pub enum Plant {
     ClashesCount,
     /// The whole keypad counts them.
     ClashesCountOnKeypad,
+    /// The pencil leaves a mark that is present: it only writes.
+    PencilNeverStrikes,
 }
 
 impl Plant {
     /// All errors, by name.
-    pub const ALL: [(&'static str, Self); 22] = [
+    pub const ALL: [(&'static str, Self); 23] = [
         ("own-note-cleared", Self::OwnNoteCleared),
         ("filled-peers-keep-marks", Self::FilledPeersKeepMarks),
         ("undo-marks-all-peers", Self::UndoMarksAllPeers),
@@ -84,6 +86,7 @@ impl Plant {
         ("players-digit-in-line", Self::PlayersDigitInLine),
         ("clashes-count", Self::ClashesCount),
         ("clashes-count-on-keypad", Self::ClashesCountOnKeypad),
+        ("pencil-never-strikes", Self::PencilNeverStrikes),
     ];
 
     /// The error of this name.
@@ -117,8 +120,31 @@ impl Plant {
             };
         }
         match (self, call) {
+            (Self::AlwaysRight, Call::Check(..)) => return (said.0, 1),
+            (Self::UndoTooEarly, Call::Undo) if before.standing == 1 => {
+                ours.board = *before;
+                return (refusal(12, 0, 0), 0);
+            }
+            (Self::FullTooEarly, call) if call.is_move() && before.standing == 1023 => {
+                ours.board = *before;
+                return (refusal(15, 0, 0), 0);
+            }
+            _ => {
+                self.noted(call, before, ours);
+                self.kept(call, before, ours);
+            }
+        }
+        said
+    }
+
+    /// What becomes of the notes.
+    fn noted(self, call: Call, before: &Board, ours: &mut Ours) {
+        match (self, call) {
             (Self::OwnNoteCleared, Call::Place(row, column, _)) => {
                 ours.board.notes[cell_of(row, column) - 1] = 0;
+            }
+            (Self::PencilNeverStrikes, Call::Pencil(row, column, digit)) => {
+                ours.board.notes[cell_of(row, column) - 1] |= 1 << digit;
             }
             (Self::FilledPeersKeepMarks, Call::Place(row, column, _)) => {
                 for &peer in peers(cell_of(row, column)) {
@@ -135,6 +161,13 @@ impl Plant {
                     }
                 }
             }
+            _ => {}
+        }
+    }
+
+    /// What becomes of digits, of solved, and of the lent memory.
+    fn kept(self, call: Call, before: &Board, ours: &mut Ours) {
+        match (self, call) {
             (Self::SolvedBySolution, Call::Place(..)) => {
                 ours.board.solved = u8::from(ours.board.digits == ours.board.solution);
             }
@@ -150,23 +183,13 @@ impl Plant {
             (Self::RedoWritesSlot, Call::Redo) if ours.board.standing < 1024 => {
                 ours.memory.journal[8 * ours.board.standing] ^= 1;
             }
-            (Self::AlwaysRight, Call::Check(..)) => return (said.0, 1),
             (Self::CheckStoresMade, Call::Check(..)) => {
                 let [low, high, ..] = ours.board.made.to_le_bytes();
                 let at = 6 * (ours.board.checks - 1);
                 ours.memory.checks[at..at + 2].copy_from_slice(&[low, high]);
             }
-            (Self::UndoTooEarly, Call::Undo) if before.standing == 1 => {
-                ours.board = *before;
-                return (refusal(12, 0, 0), 0);
-            }
-            (Self::FullTooEarly, call) if call.is_move() && before.standing == 1023 => {
-                ours.board = *before;
-                return (refusal(15, 0, 0), 0);
-            }
             _ => {}
         }
-        said
     }
 
     /// What becomes of a written record.

@@ -76,8 +76,8 @@ pub fn play(style: Style, rng: &mut Rng, plant: Plant, counts: &mut Counts) -> R
         (solution, random_givens(&solution, count, rng))
     };
     let mut script = Script { solution, givens, steps: Vec::new() };
-    let mut player =
-        Player { style, rng: rng.clone(), target, left: limit, phase: 0, burst: (0, Call::Undo), after: 12 };
+    let (rng, burst) = (rng.clone(), (0, Call::Undo));
+    let mut player = Player { style, rng, target, left: limit, phase: 0, burst, bounced: None, after: 12 };
     match run(&mut script, &mut player, plant, counts) {
         Ok(record) => Ok(Played { record, solution }),
         Err(_) => Err(Box::new(script)),
@@ -113,6 +113,12 @@ fn other_grid(solution: &Grid, count: usize, rng: &mut Rng) -> (Grid, Vec<[u8; 3
     (other, givens)
 }
 
+/// The marks that a cell's note has, or those that it lacks.
+fn marks(pair: &Pair, (row, column): (u8, u8), present: bool) -> Vec<u8> {
+    let note = pair.state.notes[cell_of(row, column) - 1];
+    (1..=9).filter(|digit| (note >> digit & 1 == 1) == present).collect()
+}
+
 struct Player {
     style: Style,
     rng: Rng,
@@ -124,6 +130,8 @@ struct Player {
     phase: usize,
     /// A call to repeat, and how often.
     burst: (usize, Call),
+    /// A press of the pencil that comes once more, from a key that bounces.
+    bounced: Option<Call>,
     /// Calls made after the board is solved.
     after: usize,
 }
@@ -135,10 +143,18 @@ impl Player {
             self.after = self.after.checked_sub(1)?;
             return Some(if self.rng.percent(80) { Step::Call(self.anything()) } else { self.aside(pair) });
         }
-        if self.rng.percent(6) {
+        let bounced = self.bounced.take();
+        if bounced.is_none() && self.rng.percent(6) {
             return Some(self.aside(pair));
         }
-        Some(Step::Call(match self.style {
+        let call = bounced.unwrap_or_else(|| self.call(pair));
+        let again = matches!(call, Call::Pencil(..)) && self.rng.percent(5);
+        self.bounced = again.then_some(call);
+        Some(Step::Call(call))
+    }
+
+    fn call(&mut self, pair: &Pair) -> Call {
+        match self.style {
             Style::Chaos => self.anything(),
             Style::Penciller => self.pencil(pair),
             Style::Solver | Style::OtherGrid => self.solve(pair),
@@ -146,7 +162,7 @@ impl Player {
             Style::Pendulum => self.swing(pair),
             Style::Checker => self.place_and_check(pair),
             Style::Marathon => self.run_far(pair),
-        }))
+        }
     }
 
     // What every player does at times.
@@ -181,8 +197,7 @@ impl Player {
         match self.rng.below(16) {
             0..=4 => Call::Place(row, column, digit),
             5 | 6 => Call::Erase(row, column),
-            7..=9 => Call::WriteMark(row, column, digit),
-            10 | 11 => Call::StrikeMark(row, column, digit),
+            7..=11 => Call::Pencil(row, column, digit),
             12 | 13 => Call::Undo,
             14 => Call::Redo,
             _ => Call::Check(row, column),
@@ -213,27 +228,34 @@ impl Player {
         Call::Place(row, column, self.target[cell_of(row, column) - 1])
     }
 
-    fn write_mark(&mut self, pair: &Pair) -> Call {
+    /// The pencil for a mark that is absent, where the note lacks one; at times for any digit, or for what is none.
+    fn press_absent(&mut self, pair: &Pair) -> Call {
         let (row, column) = self.empty_cell(pair).unwrap_or((1, 1));
-        Call::WriteMark(row, column, self.digit())
+        let (any, absent) = (self.digit(), marks(pair, (row, column), false));
+        let chosen = (1..=9).contains(&any) && !absent.is_empty() && self.rng.percent(85);
+        Call::Pencil(row, column, if chosen { self.rng.pick(&absent) } else { any })
     }
 
-    fn strike_mark(&mut self, pair: &Pair) -> Call {
-        let marked = |pair: &Pair, cell: usize| pair.state.digits[cell - 1] == 0 && pair.state.notes[cell - 1] != 0;
-        let Some((row, column)) = self.cell(pair, marked) else {
-            return self.write_mark(pair);
+    /// The pencil for a mark that is present, where there is one; at times for one that is kept under a digit.
+    fn press_present(&mut self, pair: &Pair) -> Call {
+        let under = self.rng.percent(5);
+        let marked = |pair: &Pair, cell: usize| {
+            let (digit, note) = (pair.state.digits[cell - 1], pair.state.notes[cell - 1]);
+            (digit != 0) == under && note != 0
         };
-        let note = pair.state.notes[cell_of(row, column) - 1];
-        let marks: Vec<u8> = (1..=9).filter(|digit| note >> digit & 1 == 1).collect();
-        Call::StrikeMark(row, column, self.rng.pick(&marks))
+        let Some((row, column)) = self.cell(pair, marked) else {
+            return self.press_absent(pair);
+        };
+        let present = marks(pair, (row, column), true);
+        Call::Pencil(row, column, self.rng.pick(&present))
     }
 
     // The styles.
 
     fn pencil(&mut self, pair: &Pair) -> Call {
         match self.rng.below(100) {
-            0..=66 => self.write_mark(pair),
-            67..=72 => self.strike_mark(pair),
+            0..=66 => self.press_absent(pair),
+            67..=72 => self.press_present(pair),
             73..=84 => {
                 let (row, column) = self.empty_cell(pair).unwrap_or((1, 1));
                 Call::Place(row, column, self.digit())
@@ -247,7 +269,7 @@ impl Player {
 
     fn solve(&mut self, pair: &Pair) -> Call {
         match self.rng.below(100) {
-            0..=3 => self.write_mark(pair),
+            0..=3 => self.press_absent(pair),
             4..=6 => self.filled_cell(pair).map_or(Call::Redo, |(row, column)| Call::Erase(row, column)),
             7..=10 => self.filled_cell(pair).map_or(Call::Undo, |(row, column)| Call::Check(row, column)),
             11..=13 => Call::Undo,
@@ -267,7 +289,7 @@ impl Player {
                 0 => Call::Undo,
                 1 => Call::Redo,
                 2 => self.filled_cell(pair).map_or(Call::Undo, |(row, column)| Call::Check(row, column)),
-                _ => self.write_mark(pair),
+                _ => self.press_absent(pair),
             };
         }
         if self.phase == 0 {
@@ -293,8 +315,8 @@ impl Player {
         self.burst.0 -= 1;
         match self.burst.1 {
             Call::Check(..) => match self.rng.below(10) {
-                0..=3 => self.write_mark(pair),
-                4 => self.strike_mark(pair),
+                0..=3 => self.press_absent(pair),
+                4 => self.press_present(pair),
                 5 => self.filled_cell(pair).map_or(Call::Undo, |(row, column)| Call::Erase(row, column)),
                 6 => self.filled_cell(pair).map_or(Call::Undo, |(row, column)| Call::Check(row, column)),
                 _ => {
@@ -331,8 +353,8 @@ impl Player {
                 self.burst = (self.rng.within(1, 1100), Call::Undo);
             }
             return match self.rng.below(5) {
-                0 => self.write_mark(pair),
-                1 => self.strike_mark(pair),
+                0 => self.press_absent(pair),
+                1 => self.press_present(pair),
                 2 => self.filled_cell(pair).map_or(Call::Redo, |(row, column)| Call::Check(row, column)),
                 _ => self.anything(),
             };
@@ -341,8 +363,8 @@ impl Player {
             self.burst = (self.rng.within(1, 1100), Call::Redo);
         }
         match self.rng.below(100) {
-            0..=49 => self.write_mark(pair),
-            50..=84 => self.strike_mark(pair),
+            0..=49 => self.press_absent(pair),
+            50..=84 => self.press_present(pair),
             85..=90 => {
                 let (row, column) = self.empty_cell(pair).unwrap_or((1, 1));
                 Call::Place(row, column, self.digit())

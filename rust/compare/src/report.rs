@@ -10,6 +10,10 @@ pub struct Counts {
     pub calls: u64,
     /// Of these, accepted.
     pub accepted: u64,
+    /// Marks that the pencil wrote, with the original's call for it.
+    pub marks_written: u64,
+    /// Marks that it struck.
+    pub marks_struck: u64,
     /// The same play calls once more, in lists.
     pub listed: u64,
     /// Openings.
@@ -51,9 +55,9 @@ impl Counts {
         }
     }
 
-    /// The numbers, and for 29 and 31 the inner ones, that should occur and did not.
+    /// The numbers, and for 29 and 31 the inner ones, that should occur and did not. No call answers 10 or 11.
     pub fn missing(&self) -> Vec<(u8, u8)> {
-        let plain = (1..=37).filter(|number| !matches!(number, 29 | 31)).map(|number| (number, 0));
+        let plain = (1..=37).filter(|number| !matches!(number, 10 | 11 | 29 | 31)).map(|number| (number, 0));
         let moves = [3, 5, 6, 7, 8, 9, 10, 11].map(|inner| (29, inner));
         let checks = [3, 5, 8].map(|inner| (31, inner));
         let wanted = plain.chain(moves).chain(checks).chain([(255, 0)]);
@@ -64,6 +68,7 @@ impl Counts {
     pub fn lines(&self) -> Vec<String> {
         let mut lines = vec![
             format!("calls compared          {:>9}  ({} accepted)", self.calls, self.accepted),
+            format!("marks of the pencil     {:>9}  written, {} struck", self.marks_written, self.marks_struck),
             format!("the same in lists       {:>9}", self.listed),
             format!("openings                {:>9}", self.openings),
             format!("reopenings              {:>9}  ({} accepted)", self.reopenings, self.reopened),

@@ -4,7 +4,7 @@
 use crate::bytes::{ACCEPTED, Check, Items, Move, refusal};
 use crate::call::Call;
 use crate::grid::{Grid, cell_of, peers, position_of};
-use original::board::{Board, Move as Made, MoveKind, Note, PlayError, Record, ReopenError};
+use original::board::{Board, BoardCell, Move as Made, MoveKind, Note, PlayError, Record, ReopenError};
 use original::solver::{SolveError, load};
 use original::sudoku::{Given, Position, Status, WellPosedError};
 use pawdoku::{Refusal, kind};
@@ -29,6 +29,8 @@ pub struct State {
     pub made: usize,
     /// Moves that stand.
     pub standing: usize,
+    /// The latest of them, as the original keeps it.
+    pub latest: Option<Move>,
     /// Checks.
     pub checks: usize,
 }
@@ -132,6 +134,18 @@ fn reopened(error: &ReopenError, givens: &[[u8; 3]]) -> Refusal {
     }
 }
 
+/// The pencil, which the original does not have: of its two mark calls the one that fits the mark's presence. A digit
+/// out of range is never present, so writing is asked, which says 8 where striking would say 11. A cell that holds a
+/// digit shows no note: either call refuses it by 7, as both say 3 and 4.
+fn pencil(board: &mut Board, position: Position, digit: u8) -> Result<(), PlayError> {
+    let note = board.cell(position).and_then(BoardCell::note);
+    if note.is_some_and(|note| note.contains(digit)) {
+        board.strike_mark(position, digit)
+    } else {
+        board.write_mark(position, digit)
+    }
+}
+
 impl Theirs {
     /// Opens; the givens ascend.
     pub fn open(givens: &[[u8; 3]], solution: &Grid) -> Result<Self, Refusal> {
@@ -158,8 +172,7 @@ impl Theirs {
         let answer = match call {
             Call::Place(row, column, digit) => board.place(at(row, column), digit).map(|()| false),
             Call::Erase(row, column) => board.erase(at(row, column)).map(|()| false),
-            Call::WriteMark(row, column, digit) => board.write_mark(at(row, column), digit).map(|()| false),
-            Call::StrikeMark(row, column, digit) => board.strike_mark(at(row, column), digit).map(|()| false),
+            Call::Pencil(row, column, digit) => pencil(board, at(row, column), digit).map(|()| false),
             Call::Undo => board.undo().map(|()| false),
             Call::Redo => board.redo().map(|()| false),
             Call::Check(row, column) => board.check(at(row, column)).map(original::board::Check::is_right),
@@ -181,6 +194,7 @@ impl Theirs {
             solved: self.board.status() == Status::Solved,
             made: 0,
             standing: 0,
+            latest: None,
             checks: self.board.checks().count(),
         };
         for (cell, n) in self.board.cells().zip(0..) {
@@ -198,6 +212,7 @@ impl Theirs {
         }
         if let Some(made) = latest {
             state.standing = made.index();
+            state.latest = Some(move_of(&made));
             state.notes = notes_after(&made);
         }
         state
@@ -258,7 +273,7 @@ impl Theirs {
 
     /// Notes as they are shown, with their length and whether they are empty.
     pub fn shown_notes(&self) -> Vec<(u16, usize, bool)> {
-        let notes = self.board.cells().filter_map(original::board::BoardCell::note);
+        let notes = self.board.cells().filter_map(BoardCell::note);
         notes.map(|note| (bits(note), note.len(), note.is_empty())).collect()
     }
 
@@ -289,23 +304,22 @@ fn kind_of(made: MoveKind) -> u8 {
     }
 }
 
+fn move_of(made: &Made) -> Move {
+    Move {
+        kind: kind_of(made.kind()),
+        row: made.target().row(),
+        column: made.target().column(),
+        digit: made.digit().unwrap_or(0),
+    }
+}
+
 fn reading_of(made: &Made) -> Reading {
     let digits = core::array::from_fn(|n| {
         let (row, column) = position_of(n + 1);
         made.digit_after(at(row, column)).unwrap_or(0)
     });
-    Reading {
-        made: Move {
-            kind: kind_of(made.kind()),
-            row: made.target().row(),
-            column: made.target().column(),
-            digit: made.digit().unwrap_or(0),
-        },
-        index: made.index(),
-        undone: made.is_undone(),
-        digits,
-        notes: notes_after(made),
-    }
+    let (index, undone) = (made.index(), made.is_undone());
+    Reading { made: move_of(made), index, undone, digits, notes: notes_after(made) }
 }
 
 /// The slot of a move, from digits and notes before it and notes after it.

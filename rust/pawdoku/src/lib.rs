@@ -17,7 +17,7 @@ pub use sys::{Board, Refusal};
 
 /// The version of the library's boundary that this wrapper is written for: of the names, layouts and numbers of
 /// include/pawdoku.h. [`sys::version`] is that of the linked library; a library of another version does not link.
-pub const VERSION: u32 = 3;
+pub const VERSION: u32 = 4;
 /// Cells of the grid.
 pub const CELLS: usize = 81;
 /// Moves that a journal holds.
@@ -39,15 +39,15 @@ pub const LINE_BYTES: usize = CELLS;
 /// Room for the givens of a line, however few they are.
 pub const LINE_GIVENS: usize = 3 * CELLS;
 
-/// The kinds of a move, in slots, readings and records.
+/// The kinds of a move, in slots, readings and records. A mark that the pencil wrote and one that it struck are two.
 pub mod kind {
     /// Place a digit.
     pub const PLACE: u8 = 2;
     /// Erase a digit.
     pub const ERASE: u8 = 3;
-    /// Write a mark.
+    /// A mark written.
     pub const WRITE_MARK: u8 = 4;
-    /// Strike a mark.
+    /// A mark struck.
     pub const STRIKE_MARK: u8 = 5;
 }
 
@@ -61,22 +61,21 @@ pub mod record {
     pub const CHECK: u8 = 7;
 }
 
-/// The first byte of an encoded call, which says which call it is: see [`sys::play`].
+/// The first byte of an encoded call, which says which call it is: see [`sys::play`]. None is the [`kind`] of a move: a
+/// list of kinds encodes no call and does nothing.
 pub mod call {
     /// Place a digit.
-    pub const PLACE: u8 = 2;
+    pub const PLACE: u8 = 16;
     /// Erase a digit.
-    pub const ERASE: u8 = 3;
-    /// Write a mark.
-    pub const WRITE_MARK: u8 = 4;
-    /// Strike a mark.
-    pub const STRIKE_MARK: u8 = 5;
+    pub const ERASE: u8 = 17;
+    /// The pencil: strike a mark that is present, write one that is absent.
+    pub const PENCIL: u8 = 18;
     /// Undo.
-    pub const UNDO: u8 = 6;
-    /// Check.
-    pub const CHECK: u8 = 7;
+    pub const UNDO: u8 = 19;
     /// Redo.
-    pub const REDO: u8 = 8;
+    pub const REDO: u8 = 20;
+    /// Check.
+    pub const CHECK: u8 = 21;
 }
 
 /// A grid without conflicts, for examples and tests: cell (r, c) is (3(r-1) + (r-1)/3 + c-1) mod 9, plus 1.

@@ -7,6 +7,7 @@ use core::fmt;
 macro_rules! reasons {
     ($($name:ident = $number:literal, $says:literal;)*) => {
         /// Why a call is refused, by name. The numbers are those of the requirement and of include/pawdoku.h.
+        /// Numbers 10 and 11 answer no call: they say of a record's move, as `inner` of 29, why it is refused.
         #[derive(Debug, Clone, Copy, PartialEq, Eq, PartialOrd, Ord, Hash)]
         #[repr(u8)]
         #[non_exhaustive]

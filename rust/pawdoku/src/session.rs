@@ -12,7 +12,7 @@ use crate::{CHECK_MEMORY, JOURNAL_BYTES, LINE_BYTES, LINE_GIVENS, MAX_RECORD, SL
 ///
 /// let solution = pawdoku::example_solution();
 /// let mut session = Session::open(&[], &solution)?;
-/// session.write_mark(1, 2, 5)?;
+/// session.pencil(1, 2, 5)?;                      // writes the mark; once more would strike it
 /// session.place(1, 1, 5)?;                       // strikes the mark of the peer
 /// assert_eq!(session.cell(1, 2)?.note, 0);
 /// session.undo()?;                               // and brings it back
@@ -107,23 +107,17 @@ impl Session {
         self.answer.refusal.into_result()
     }
 
-    /// Writes a mark.
+    /// The pencil key: strikes the mark where it is present, writes it where it is absent.
+    ///
+    /// No caller needs to know which. Nor is a second press known from a first: a key that bounces turns the mark round
+    /// again, and both presses are moves, recorded and undone each by itself. A session goes on with every answer, so
+    /// never press once more to be sure: [`Self::cell`] says how the mark stands.
     ///
     /// # Errors
     ///
-    /// Refused by 3, 4, 7, 8, 10, 15.
-    pub fn write_mark(&mut self, row: u8, column: u8, digit: u8) -> Refused<()> {
-        sys::write_mark_on(&mut self.answer, self.journal.as_mut_slice(), row, column, digit);
-        self.answer.refusal.into_result()
-    }
-
-    /// Strikes a mark.
-    ///
-    /// # Errors
-    ///
-    /// Refused by 3, 4, 7, 11, 15.
-    pub fn strike_mark(&mut self, row: u8, column: u8, digit: u8) -> Refused<()> {
-        sys::strike_mark_on(&mut self.answer, self.journal.as_mut_slice(), row, column, digit);
+    /// Refused by 3, 4, 7, 8, 15.
+    pub fn pencil(&mut self, row: u8, column: u8, digit: u8) -> Refused<()> {
+        sys::pencil_on(&mut self.answer, self.journal.as_mut_slice(), row, column, digit);
         self.answer.refusal.into_result()
     }
 

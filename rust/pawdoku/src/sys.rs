@@ -1,5 +1,5 @@
-//! Every function of include/pawdoku.h as it is: any board, any slices, any bytes. The four moves, undo and redo stand
-//! here twice: [`undo`] returns its answer, [`undo_on`] lays it over the one before.
+//! Every function of include/pawdoku.h as it is: any board, any slices, any bytes. Place, erase, the pencil, undo and
+//! redo stand here twice: [`undo`] returns its answer, [`undo_on`] lays it over the one before.
 //!
 //! The library refuses what it cannot use by a number, whatever it is handed, so all of these are safe: what it
 //! asks of a caller beyond that (pointers that can be used, no overlap with memory that is written) is what a Rust
@@ -218,17 +218,17 @@ const _: () = {
 #[cfg(not(all(target_arch = "x86_64", target_family = "unix", target_pointer_width = "64")))]
 compile_error!("pawdoku is called by the System V ABI for x86-64, where an answer comes back through a pointer");
 
-// The four moves, undo and redo are declared with the pointer shown that C hides. By the System V ABI for x86-64 a
-// struct of more than 64 bytes has class MEMORY and is returned through a pointer: the caller passes it as if it were
-// the first argument, and it comes back in rax. So `answer f(board, ...)` and `answer *f(answer *, board, ...)` are the
-// same call. With the pointer shown the caller says where the answer is laid, and nothing has to copy it there.
+// Place, erase, the pencil, undo and redo are declared with the pointer shown that C hides. By the System V ABI for
+// x86-64 a struct of more than 64 bytes has class MEMORY and is returned through a pointer: the caller passes it as if
+// it were the first argument, and it comes back in rax. So `answer f(board, ...)` and `answer *f(answer *, board, ...)`
+// are the same call. With the pointer shown the caller says where the answer is laid, and nothing has to copy it there.
 mod c {
     use super::{Answer, Board, CellAnswer, Checked, Digits, KeypadAnswer, Left};
     use super::{PeerCells, ReadingAnswer, Shown, Written, YesNo};
 
     unsafe extern "C" {
         pub fn pawdoku_version() -> u32;
-        pub fn pawdoku_abi_3() -> u32;
+        pub fn pawdoku_abi_4() -> u32;
         pub fn pawdoku_open(
             givens: *const u8,
             givens_length: usize,
@@ -256,16 +256,7 @@ mod c {
             row: u8,
             column: u8,
         ) -> *mut Answer;
-        pub fn pawdoku_write_mark(
-            answer: *mut Answer,
-            board: Board,
-            journal: *mut u8,
-            journal_length: usize,
-            row: u8,
-            column: u8,
-            digit: u8,
-        ) -> *mut Answer;
-        pub fn pawdoku_strike_mark(
+        pub fn pawdoku_pencil(
             answer: *mut Answer,
             board: Board,
             journal: *mut u8,
@@ -361,9 +352,9 @@ mod c {
 // What these declarations are of: the library has one function with its version in the name, and a library of another
 // version leaves this undefined, so that nothing links with it. Nobody calls it; the name goes with `VERSION`.
 #[used]
-static ABI: unsafe extern "C" fn() -> u32 = c::pawdoku_abi_3;
+static ABI: unsafe extern "C" fn() -> u32 = c::pawdoku_abi_4;
 
-// SAFETY, for every block below: the declarations are the header's (six with the answer's pointer shown), the structs
+// SAFETY, for every block below: the declarations are the header's (five with the answer's pointer shown), the structs
 // have its layout, every field is an integer (so that any bytes are a value), and each pointer with its length is a
 // slice that Rust holds for the call: valid for its length, written only where it is borrowed mutably, which also keeps
 // it apart from the rest. The library keeps no pointer.
@@ -437,38 +428,24 @@ pub fn erase_on(answer: &mut Answer, journal: &mut [u8], row: u8, column: u8) {
     unsafe { c::pawdoku_erase(answer, answer.board, lent, length, row, column) };
 }
 
-/// Writes a mark. Refused by 1 to 4, 7, 8, 10, 15.
+/// Strikes the mark where it is present, writes it where it is absent. Made again on the board of its answer it turns
+/// the mark round again; made again on this board, where an answer was lost, it answers the same. Refused by 1 to 4, 7,
+/// 8, 15.
 #[must_use]
 #[inline]
-pub fn write_mark(board: &Board, journal: &mut [u8], row: u8, column: u8, digit: u8) -> Answer {
+pub fn pencil(board: &Board, journal: &mut [u8], row: u8, column: u8, digit: u8) -> Answer {
     let (lent, length) = (journal.as_mut_ptr(), journal.len());
-    unsafe { laid(|answer| c::pawdoku_write_mark(answer, *board, lent, length, row, column, digit)) }
+    unsafe { laid(|answer| c::pawdoku_pencil(answer, *board, lent, length, row, column, digit)) }
 }
 
-/// Writes a mark, on the board of the latest answer. Refused by 1 to 4, 7, 8, 10, 15.
+/// Strikes the mark where it is present, writes it where it is absent, on the board of the latest answer. Refused by 1
+/// to 4, 7, 8, 15.
 ///
 /// The answer is laid over the one before, without a copy.
 #[inline]
-pub fn write_mark_on(answer: &mut Answer, journal: &mut [u8], row: u8, column: u8, digit: u8) {
+pub fn pencil_on(answer: &mut Answer, journal: &mut [u8], row: u8, column: u8, digit: u8) {
     let (lent, length) = (journal.as_mut_ptr(), journal.len());
-    unsafe { c::pawdoku_write_mark(answer, answer.board, lent, length, row, column, digit) };
-}
-
-/// Strikes a mark. Refused by 1 to 4, 7, 11, 15.
-#[must_use]
-#[inline]
-pub fn strike_mark(board: &Board, journal: &mut [u8], row: u8, column: u8, digit: u8) -> Answer {
-    let (lent, length) = (journal.as_mut_ptr(), journal.len());
-    unsafe { laid(|answer| c::pawdoku_strike_mark(answer, *board, lent, length, row, column, digit)) }
-}
-
-/// Strikes a mark, on the board of the latest answer. Refused by 1 to 4, 7, 11, 15.
-///
-/// The answer is laid over the one before, without a copy.
-#[inline]
-pub fn strike_mark_on(answer: &mut Answer, journal: &mut [u8], row: u8, column: u8, digit: u8) {
-    let (lent, length) = (journal.as_mut_ptr(), journal.len());
-    unsafe { c::pawdoku_strike_mark(answer, answer.board, lent, length, row, column, digit) };
+    unsafe { c::pawdoku_pencil(answer, answer.board, lent, length, row, column, digit) };
 }
 
 /// Takes the latest standing move back. Refused by 1, 2, 4, 12, 14.

@@ -1,30 +1,28 @@
 //! An answer that is laid over the one before is the answer that the call returns, and the journal is the same.
 
 use pawdoku::sys::{self, Answer, Refusal};
-use pawdoku::{Board, CHECK_MEMORY, JOURNAL_BYTES, call, example_solution};
+use pawdoku::{Board, CHECK_MEMORY, JOURNAL_BYTES, call, example_solution, kind};
 
 /// Which call it is, row, column, digit, as a list has them.
 type Call = [u8; 4];
 
-const KINDS: [u8; 6] = [call::PLACE, call::ERASE, call::WRITE_MARK, call::STRIKE_MARK, call::UNDO, call::REDO];
+const CALLS: [u8; 5] = [call::PLACE, call::ERASE, call::PENCIL, call::UNDO, call::REDO];
 
-fn returned(board: &Board, journal: &mut [u8], [kind, row, column, digit]: Call) -> Answer {
-    match kind {
+fn returned(board: &Board, journal: &mut [u8], [which, row, column, digit]: Call) -> Answer {
+    match which {
         call::PLACE => sys::place(board, journal, row, column, digit),
         call::ERASE => sys::erase(board, journal, row, column),
-        call::WRITE_MARK => sys::write_mark(board, journal, row, column, digit),
-        call::STRIKE_MARK => sys::strike_mark(board, journal, row, column, digit),
+        call::PENCIL => sys::pencil(board, journal, row, column, digit),
         call::UNDO => sys::undo(board, journal),
         _ => sys::redo(board, journal),
     }
 }
 
-fn lay(answer: &mut Answer, journal: &mut [u8], [kind, row, column, digit]: Call) {
-    match kind {
+fn lay(answer: &mut Answer, journal: &mut [u8], [which, row, column, digit]: Call) {
+    match which {
         call::PLACE => sys::place_on(answer, journal, row, column, digit),
         call::ERASE => sys::erase_on(answer, journal, row, column),
-        call::WRITE_MARK => sys::write_mark_on(answer, journal, row, column, digit),
-        call::STRIKE_MARK => sys::strike_mark_on(answer, journal, row, column, digit),
+        call::PENCIL => sys::pencil_on(answer, journal, row, column, digit),
         call::UNDO => sys::undo_on(answer, journal),
         _ => sys::redo_on(answer, journal),
     }
@@ -53,17 +51,18 @@ fn a_session_is_the_same() {
     let (mut answer, mut journal) = opened();
     let calls = [
         ([call::UNDO, 0, 0, 0], 12),
-        ([call::WRITE_MARK, 1, 2, 5], 0),
-        ([call::WRITE_MARK, 1, 2, 5], 10),
+        ([call::PENCIL, 1, 2, 5], 0),
+        ([call::PENCIL, 1, 2, 10], 8),
+        ([call::PENCIL, 1, 1, 5], 7),
+        ([call::PENCIL, 1, 10, 5], 3),
         ([call::PLACE, 1, 3, 5], 0),
         ([call::PLACE, 1, 1, 5], 5),
         ([call::PLACE, 0, 1, 5], 3),
-        ([call::STRIKE_MARK, 1, 2, 5], 11),
         ([call::UNDO, 0, 0, 0], 0),
         ([call::REDO, 0, 0, 0], 0),
         ([call::REDO, 0, 0, 0], 13),
         ([call::UNDO, 0, 0, 0], 0),
-        ([call::STRIKE_MARK, 1, 2, 5], 0),
+        ([call::PENCIL, 1, 2, 5], 0),
         ([call::PLACE, 9, 8, 5], 0),
         ([call::ERASE, 9, 8, 0], 0),
         ([call::ERASE, 9, 8, 0], 6),
@@ -73,6 +72,7 @@ fn a_session_is_the_same() {
         assert_eq!(number(&mut answer, &mut journal, call), expected, "{call:?}");
     }
     assert_eq!((answer.board.made, answer.board.standing, answer.board.digits[79]), (4, 3, 5));
+    assert_eq!((answer.board.notes[1], journal[0], journal[8]), (0, kind::WRITE_MARK, kind::STRIKE_MARK));
 }
 
 #[test]
@@ -95,11 +95,11 @@ fn foreign_boards_and_memory_are_refused_the_same() {
         (digit_10, JOURNAL_BYTES - 8, 1),
     ];
     for (board, length, expected) in cases {
-        for kind in KINDS {
+        for which in CALLS {
             // What stood there before the call says nothing of it.
             let mut answer = Answer { refusal: Refusal { number: 99, place: 99, inner: 99 }, board };
             let mut journal = journal[..length].to_vec();
-            assert_eq!(number(&mut answer, &mut journal, [kind, 1, 2, 5]), expected, "{kind}");
+            assert_eq!(number(&mut answer, &mut journal, [which, 1, 2, 5]), expected, "{which}");
         }
     }
 }

@@ -26,7 +26,7 @@ fn opens_plays_writes_and_reopens() {
     let solution = example_solution();
     let mut session = empty();
     session.place(1, 1, 5).expect("placed");
-    session.write_mark(1, 2, 3).expect("written");
+    session.pencil(1, 2, 3).expect("written");
     session.undo().expect("undone");
     assert_eq!(session.check(1, 1), Ok(false));
     let record = session.write().expect("written down");
@@ -46,7 +46,7 @@ fn twenty_marks_come_back() {
     let mut session = empty();
     let peers = sys::peers(sys::cell_of(5, 5)).cells;
     for peer in peers {
-        session.write_mark((peer - 1) / 9 + 1, (peer - 1) % 9 + 1, 5).expect("written");
+        session.pencil((peer - 1) / 9 + 1, (peer - 1) % 9 + 1, 5).expect("written");
     }
     let before = *session.board();
     session.place(5, 5, 5).expect("placed");
@@ -55,6 +55,60 @@ fn twenty_marks_come_back() {
     session.undo().expect("undone");
     assert_eq!(session.next(), Ok([kind::PLACE, 5, 5, 5, 0, 255, 255, 15]));
     assert_eq!((before.digits, before.notes), (session.board().digits, session.board().notes));
+}
+
+#[test]
+fn the_pencil_pressed_again_turns_the_mark_round() {
+    let mut session = empty();
+    let note = |session: &Session| session.cell(5, 5).expect("a cell").note;
+    session.pencil(5, 5, 3).expect("written");
+    assert_eq!((note(&session), session.latest()), (1 << 3, Ok([kind::WRITE_MARK, 5, 5, 3, 0, 0, 0, 0])));
+    session.pencil(5, 5, 3).expect("struck");
+    assert_eq!((note(&session), session.latest()), (0, Ok([kind::STRIKE_MARK, 5, 5, 3, 0, 0, 0, 0])));
+    session.pencil(5, 5, 3).expect("written again");
+    assert_eq!((note(&session), session.board().made), (1 << 3, 3));
+    let record = session.write().expect("written down");
+    assert_eq!(record, [4, 5, 5, 3, 5, 5, 5, 3, 4, 5, 5, 3, 6, 0, 0]);
+    // Each press is taken back by itself.
+    for left in [0, 1 << 3, 0] {
+        session.undo().expect("undone");
+        assert_eq!(note(&session), left);
+    }
+    assert_eq!((session.can_undo(), session.can_redo()), (false, true));
+    session.redo().expect("redone");
+    session.pencil(5, 5, 3).expect("struck, and the undone presses are gone");
+    assert_eq!((note(&session), session.board().made), (0, 2));
+}
+
+#[test]
+fn the_pencil_is_refused_by_7_before_8() {
+    let mut session = Session::open(&[[1, 1, 1]], &example_solution()).expect("opens");
+    session.place(5, 5, 5).expect("placed");
+    let before = *session.board();
+    let mut refused = |row, column, digit| session.pencil(row, column, digit).expect_err("refused");
+    for digit in [0, 10, 255] {
+        assert_eq!(refused(9, 9, digit).reason(), Some(Reason::DigitOutOfRange));
+        assert_eq!(refused(5, 5, digit).reason(), Some(Reason::MarksNotAccepted));
+        assert_eq!(refused(1, 1, digit).reason(), Some(Reason::MarksNotAccepted));
+        assert_eq!(refused(9, 10, digit).reason(), Some(Reason::NoSuchCell));
+    }
+    assert_eq!(refused(5, 5, 3).reason(), Some(Reason::MarksNotAccepted));
+    assert_eq!(*session.board(), before);
+}
+
+#[test]
+fn a_records_marks_keep_their_rules() {
+    let solution = example_solution();
+    let refused = |record: &[u8]| {
+        let refusal = Session::reopen(record, &solution).map(|_| ()).expect_err("refused");
+        (refusal.number, refusal.place, Reason::from_number(refusal.inner))
+    };
+    let (there, absent) = (Some(Reason::MarkAlreadyWritten), Some(Reason::MarkNotThere));
+    assert_eq!(refused(&[4, 5, 5, 3, 4, 5, 5, 3, 6, 0, 0]), (29, 2, there));
+    assert_eq!(refused(&[5, 5, 5, 3, 6, 0, 0]), (29, 1, absent));
+    assert_eq!(refused(&[5, 5, 5, 10, 6, 0, 0]), (29, 1, absent));
+    assert_eq!(refused(&[4, 5, 5, 10, 6, 0, 0]), (29, 1, Some(Reason::DigitOutOfRange)));
+    assert_eq!(refused(&[2, 5, 5, 3, 5, 5, 5, 10, 6, 0, 0]), (29, 2, Some(Reason::MarksNotAccepted)));
 }
 
 #[test]
@@ -93,22 +147,54 @@ fn a_list_of_calls_is_run() {
     let expected = [[0, 0, 0, 0], [0, 0, 0, 1], [0; 4], [12, 0, 0, 0], [0; 4], [255, 0, 0, 0]];
     assert_eq!(answers, expected);
     assert_eq!((session.board().made, session.board().standing), (1, 1));
+    let press = [call::PENCIL, 1, 2, 3];
+    session.play(&[press, press, [call::PENCIL, 1, 2, 10], [call::PENCIL, 1, 1, 10]], &mut answers);
+    assert_eq!(answers[..4], [[0; 4], [0; 4], [8, 0, 0, 0], [7, 0, 0, 0]]);
+    assert_eq!(session.latest(), Ok([kind::STRIKE_MARK, 1, 2, 3, 0, 0, 0, 0]));
+}
+
+/// Six first bytes encode a call. The kinds of a move, which the calls of versions 1 to 3 had too, are among the rest.
+#[test]
+fn other_first_bytes_encode_no_call() {
+    let mut session = empty();
+    session.place(1, 1, 1).expect("placed");
+    session.pencil(1, 2, 3).expect("written");
+    session.undo().expect("undone");
+    let before = session.clone();
+    let six = [call::PLACE, call::ERASE, call::PENCIL, call::UNDO, call::REDO, call::CHECK];
+    assert_eq!(six, [16, 17, 18, 19, 20, 21]);
+    for first in (0..=255).filter(|first| !six.contains(first)) {
+        for (row, column) in [(1, 1), (1, 2)] {
+            let mut answers = [[9; 4]];
+            session.play(&[[first, row, column, 3]], &mut answers);
+            assert_eq!(answers, [[255, 0, 0, 0]], "{first}");
+        }
+    }
+    assert_eq!(session.board(), before.board());
+    assert_eq!((session.journal(), session.checks()), (before.journal(), before.checks()));
 }
 
 #[test]
 fn a_list_on_a_foreign_board_is_answered_by_2_call_by_call() {
     let mut session = empty();
     session.place(1, 1, 1).expect("placed");
-    let calls = [[call::ERASE, 1, 1, 0], [call::CHECK, 1, 1, 0], [call::UNDO, 0, 0, 0], [9, 1, 1, 1]];
+    let calls = [
+        [call::ERASE, 1, 1, 0],
+        [call::PENCIL, 1, 2, 3],
+        [call::CHECK, 1, 1, 0],
+        [call::UNDO, 0, 0, 0],
+        [kind::ERASE, 1, 1, 0],
+    ];
     let (mut given, mut solved) = (*session.board(), *session.board());
     given.given[80] = 2;
     solved.solved = 255;
     for board in [Board::ZERO, given, solved] {
         let (mut journal, mut checks) = (*session.journal(), *session.checks());
-        let mut answers = [[9; 4]; 4];
+        let mut answers = [[9; 4]; 5];
         let list = sys::play(&board, &mut journal, &mut checks, calls.as_flattened(), answers.as_flattened_mut());
         assert_eq!((list.refusal.number, list.board), (0, board));
-        assert_eq!(answers, [[2, 0, 0, 0], [2, 0, 0, 0], [2, 0, 0, 0], [255, 0, 0, 0]]);
+        assert_eq!(answers[..4], [[2, 0, 0, 0]; 4]);
+        assert_eq!(answers[4], [255, 0, 0, 0]);
         assert_eq!((&journal, &checks), (session.journal(), session.checks()));
     }
 }
