@@ -86,7 +86,7 @@ static void place(struct sitting *s, uint8_t row, uint8_t column, uint8_t digit)
 
 static void pencil(struct sitting *s, uint8_t row, uint8_t column, uint8_t digit)
 {
-    accept(s, pawdoku_write_mark(s->board, s->journal, sizeof s->journal, row, column, digit), "pencilling");
+    accept(s, pawdoku_pencil(s->board, s->journal, sizeof s->journal, row, column, digit), "pencilling");
 }
 
 static void undo(struct sitting *s)
@@ -112,6 +112,21 @@ static int shows_mark(const struct sitting *s, uint8_t row, uint8_t column, uint
     pawdoku_cell_answer cell = pawdoku_cell(s->board, row, column);
     expect(cell.refusal.number == PAWDOKU_ACCEPTED, "the question for a cell is answered");
     return cell.shown && pawdoku_note_contains(cell.note, digit);
+}
+
+/* The pencil key, pressed twice, as a key that bounces presses it: the first press writes the mark, the second strikes
+ * it. Both are moves, and undoing takes them back one by one. */
+static void pencil_twice(struct sitting *s)
+{
+    pencil(s, 1, 4, 6);
+    expect(shows_mark(s, 1, 4, 6), "the pencil writes a mark that is absent");
+    pencil(s, 1, 4, 6);
+    expect(!shows_mark(s, 1, 4, 6) && s->board.made == 2, "and strikes one that is present, by a second move");
+    undo(s);
+    expect(shows_mark(s, 1, 4, 6), "undoing the second press brings the mark back");
+    undo(s);
+    expect(!shows_mark(s, 1, 4, 6) && s->board.standing == 0, "undoing the first takes it away");
+    printf("pencilled 6 twice at row 1, column 4: written, struck, and each taken back by itself\n");
 }
 
 /* Pencils 4 into three peers of row 1, column 3, and places 4 there: the marks vanish, and come back when it is undone. */
@@ -217,6 +232,7 @@ int main(int argc, char **argv)
     uint8_t record[PAWDOKU_MAX_RECORD];
 
     open_puzzle(&first);
+    pencil_twice(&first);
     pencil_and_place(&first);
     look_at_latest(&first);
     look_at_keypad(&first);

@@ -280,7 +280,7 @@ static void check(struct sitting *s, size_t cell, int right)
     took(s, (pawdoku_answer){c.refusal, c.board}, "checking");
 }
 
-/* A mark in some cell, written or struck, where one can stand. */
+/* The pencil in some cell where a mark can stand: one that is present is struck, one that is absent is written. */
 static void pencil(struct sitting *s)
 {
     size_t cell = below(PAWDOKU_CELLS);
@@ -290,10 +290,10 @@ static void pencil(struct sitting *s)
     if (!a.shown)
         return;
     calls++;
-    if (pawdoku_note_contains(a.note, digit))
-        took(s, pawdoku_strike_mark(s->board, s->journal.bytes, s->journal.length, r, c, digit), "striking a mark");
-    else
-        took(s, pawdoku_write_mark(s->board, s->journal.bytes, s->journal.length, r, c, digit), "writing a mark");
+    int present = pawdoku_note_contains(a.note, digit), mark = 1 << digit;
+    took(s, pawdoku_pencil(s->board, s->journal.bytes, s->journal.length, r, c, digit),
+         present ? "striking a mark" : "writing a mark");
+    must(s->board.notes[cell] == (present ? a.note - mark : a.note + mark), "the pencil leaves another note");
 }
 
 /* Some moves back, and forth again. */

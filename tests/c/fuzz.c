@@ -5,6 +5,9 @@
  *     the number is one that include/pawdoku.h lists for the call, and the lowest of 1 to 4 that applies;
  *     a refused call leaves the board and the lent memory as they were (opening and reopening: zero, unless by 1);
  *     a board that comes back accepted is a board;
+ *     place, erase and pencil made again on the board that was passed answer the same;
+ *     the pencil answers and leaves what pencil.h says; pressed twice it leaves two moves, each undone by itself;
+ *     no call answers 10 or 11: they stand inside 29, where a record's mark is refused as pencil.h says;
  *     a list of calls is answered as its calls are, one after the other, also on what is no board;
  *     a sitting that is saved reopens as it was;
  *     a line is read and written as lines.h says it, and each of the two brings back what the other made.
@@ -14,6 +17,7 @@
  * The same seed makes the same calls. Writes how many calls were made of each and how often each number was given. */
 #define _DEFAULT_SOURCE 1
 #include "lines.h"
+#include "pencil.h"
 #include "records.h"
 
 #include <signal.h>
@@ -77,14 +81,26 @@ static pawdoku_answer call_move(enum call call, pawdoku_board b, uint8_t *j, siz
     switch (call) {
     case PLACE: return pawdoku_place(b, j, length, row, column, digit);
     case ERASE: return pawdoku_erase(b, j, length, row, column);
-    case WRITE_MARK: return pawdoku_write_mark(b, j, length, row, column, digit);
-    default: return pawdoku_strike_mark(b, j, length, row, column, digit);
+    default: return pawdoku_pencil(b, j, length, row, column, digit);
     }
+}
+
+/* An answer that was lost: the call made again on the board that was passed, on the journal as it was left, answers the
+ * same and leaves the same. */
+static void must_answer_again(enum call call, const pawdoku_board *b, struct aim at, const pawdoku_answer *first)
+{
+    static uint8_t left[LENT_MOST];
+    memcpy(left, journal.bytes, journal.length);
+    pawdoku_answer a = call_move(call, *b, journal.pointer, journal.length, at.row, at.column, at.digit);
+    count(call, a.refusal);
+    must(a.refusal.number == first->refusal.number, call, "made again, it is answered by another number");
+    must(same_board(&a.board, &first->board), call, "made again, it answers another board");
+    must(memcmp(journal.bytes, left, journal.length) == 0, call, "made again, it leaves another journal");
 }
 
 static void try_move(void)
 {
-    static const enum call moves[4] = {PLACE, ERASE, WRITE_MARK, STRIKE_MARK};
+    static const enum call moves[4] = {PLACE, ERASE, PENCIL, PENCIL};
     enum call call = moves[below(4)];
     struct passed p = pass();
     struct aim at = take_aim(call, &p.board);
@@ -93,11 +109,45 @@ static void try_move(void)
     look_at_guards(call);
     must_be_lowest(call, a.refusal, lowest(&p, journal.length == PAWDOKU_JOURNAL_BYTES, on_grid(at.row, at.column), 1));
     must_answer(call, &p, a.refusal, &a.board);
+    if (call == PENCIL) {
+        const struct pencilled e = pencilling_of(&p.board, at);
+        must_be_pencilled(&a, &e);
+    }
+    must_answer_again(call, &p.board, at, &a);
     if (a.refusal.number != 0)
         return;
     must(a.board.standing == p.board.standing + 1 && a.board.made == a.board.standing, call, "a recorded move is the last");
     must(only_changed(&journal, 8 * p.board.standing, 8), call, "a recorded move writes its one slot");
     go_on(&p, &a.board);
+}
+
+/* A key that bounces turns a mark round and back again: two moves, unless the journal has room for one alone, and each
+ * is undone by itself. */
+static void try_bounce(void)
+{
+    struct passed p = pass();
+    struct aim at = take_aim(PENCIL, &p.board);
+    uint16_t notes[2][PAWDOKU_CELLS];
+    pawdoku_board b = p.board;
+    for (int press = 0; press < 2; press++) {
+        memcpy(notes[press], b.notes, sizeof b.notes);
+        pawdoku_answer a = pawdoku_pencil(b, journal.pointer, journal.length, at.row, at.column, at.digit);
+        count(PENCIL, a.refusal);
+        must(press == 0 || a.refusal.number == 0 || b.standing == PAWDOKU_MAX_MOVES, PENCIL, "refused the second time");
+        if (a.refusal.number != 0)
+            return;
+        b = a.board;
+    }
+    look_at_guards(PENCIL);
+    must(b.standing == p.board.standing + 2, PENCIL, "two presses are other than two moves");
+    must(memcmp(b.notes, notes[0], sizeof b.notes) == 0, PENCIL, "two presses leave another note");
+    for (int press = 1; press >= 0; press--) {
+        pawdoku_answer a = pawdoku_undo(b, journal.pointer, journal.length);
+        count(UNDO, a.refusal);
+        must(a.refusal.number == 0, UNDO, "a press of the pencil cannot be undone");
+        must(memcmp(a.board.notes, notes[press], sizeof b.notes) == 0, UNDO, "undone, the note is another than before");
+        b = a.board;
+    }
 }
 
 static void try_back(void)
@@ -287,6 +337,23 @@ static void try_reopen(void)
     must_open(REOPEN, &a, lengths_to_open());
 }
 
+/* Marks of both kinds, as a record has them: no call makes such a move where the mark is otherwise. */
+static void try_marks(void)
+{
+    const struct sitting *s = &sittings[below(SITTINGS)];
+    const struct marks m = marks_of(s);
+    lend(&input, m.record, m.length);
+    lend(&solution, s->solution, PAWDOKU_SOLUTION_BYTES);
+    lend_used_memory();
+    pawdoku_answer a = pawdoku_reopen(input.pointer, input.length, solution.pointer, solution.length, journal.pointer,
+                                      journal.length, checks.pointer, checks.length);
+    count(REOPEN, a.refusal);
+    look_at_guards(REOPEN);
+    must_open(REOPEN, &a, lengths_to_open());
+    if (lengths_to_open())
+        must_be_marked(&a, &m);
+}
+
 /* ---- the questions */
 
 static uint8_t box_line(uint8_t line_byte)
@@ -420,11 +487,10 @@ static enum call call_of(uint8_t first)
     switch (first) {
     case PAWDOKU_CALL_PLACE: return PLACE;
     case PAWDOKU_CALL_ERASE: return ERASE;
-    case PAWDOKU_CALL_WRITE_MARK: return WRITE_MARK;
-    case PAWDOKU_CALL_STRIKE_MARK: return STRIKE_MARK;
+    case PAWDOKU_CALL_PENCIL: return PENCIL;
     case PAWDOKU_CALL_UNDO: return UNDO;
-    case PAWDOKU_CALL_CHECK: return CHECK;
     case PAWDOKU_CALL_REDO: return REDO;
+    case PAWDOKU_CALL_CHECK: return CHECK;
     default: return CALLS;
     }
 }
@@ -490,30 +556,70 @@ static void must_be_as_one_by_one(const struct passed *p, const pawdoku_board *l
     must(memcmp(checks.bytes, again.checks, checks.length) == 0, PLAY, "other checks");
 }
 
+/* A call's most often; now and then one of versions 1 to 3, which is none today, or any. */
+static uint8_t first_byte(void)
+{
+    if (one_in(16))
+        return (uint8_t)(2 + below(7));
+    return one_in(16) ? any_byte() : (uint8_t)(PAWDOKU_CALL_PLACE + below(6));
+}
+
 static void lend_list(void)
 {
     static uint8_t list[256], full[256];
     for (size_t i = 0; i < sizeof list; i++)
-        list[i] = i % 4 != 0 ? line() : one_in(16) ? any_byte() : (uint8_t)(PAWDOKU_CALL_PLACE + below(7));
+        list[i] = i % 4 != 0 ? line() : first_byte();
     memset(full, 0x77, sizeof full);
     size_t length = below(sizeof list);
     lend(&input, list, length);
     lend(&answers, full, one_in(4) ? below(sizeof full) : length);
 }
 
-static void try_play(void)
+/* As many calls as there are whole groups in both. */
+static size_t groups_lent(void)
 {
-    struct passed p = pass();
-    lend_list();
-    pawdoku_answer a = pawdoku_play(p.board, journal.pointer, journal.length, checks.pointer, checks.length,
+    return (input.length < answers.length ? input.length : answers.length) / 4;
+}
+
+/* Runs the list that is lent. */
+static pawdoku_board play_list(const struct passed *p)
+{
+    pawdoku_answer a = pawdoku_play(p->board, journal.pointer, journal.length, checks.pointer, checks.length,
                                     input.pointer, input.length, answers.pointer, answers.length);
     count(PLAY, a.refusal);
     look_at_guards(PLAY);
     must(unchanged_from(&input, 0), PLAY, "the list was written");
-    size_t groups = (input.length < answers.length ? input.length : answers.length) / 4;
-    must(unchanged_from(&answers, 4 * groups), PLAY, "bytes behind the answers were written");
-    must_be_as_one_by_one(&p, &a.board, groups);
-    go_on(&p, &a.board);
+    must(unchanged_from(&answers, 4 * groups_lent()), PLAY, "bytes behind the answers were written");
+    look_at_answers(answers.bytes, groups_lent());
+    must_be_as_one_by_one(p, &a.board, groups_lent());
+    return a.board;
+}
+
+static void try_play(void)
+{
+    struct passed p = pass();
+    lend_list();
+    const pawdoku_board left = play_list(&p);
+    go_on(&p, &left);
+}
+
+/* Every byte there is, as the first of a group: 16 to 21 are calls, and no other. */
+static void try_every_first_byte(void)
+{
+    static uint8_t list[4 * 256];
+    struct passed p = pass();
+    for (size_t byte = 0; byte < 256; byte++) {
+        const uint8_t group[4] = {(uint8_t)byte, line(), line(), line()};
+        memcpy(list + 4 * byte, group, sizeof group);
+    }
+    lend(&input, list, sizeof list);
+    lend(&answers, list, sizeof list);
+    const pawdoku_board left = play_list(&p);
+    for (size_t byte = 0; byte < 256; byte++) {
+        const int is_call = byte >= 16 && byte <= 21, said_so = answers.bytes[4 * byte] != PAWDOKU_NO_CALL;
+        must(is_call == said_so, PLAY, "a first byte is a call's wrongly, or wrongly none's");
+    }
+    go_on(&p, &left);
 }
 
 /* ---- puzzle lines */
@@ -601,6 +707,7 @@ static void open_and_play(struct sitting *s, size_t givens_length)
     pawdoku_answer a = pawdoku_play(s->board, s->journal, sizeof s->journal, s->checks, sizeof s->checks, input.pointer,
                                     input.length, answers.pointer, answers.length);
     count(PLAY, a.refusal);
+    look_at_answers(answers.bytes, groups_lent());
     s->board = a.board;
 }
 
@@ -669,32 +776,39 @@ static void try_grid(void)
 
 /* ---- the run */
 
-/* How often each is tried, of 37. */
-enum { TRIED = 37 };
+/* How often each is tried, of 39. */
+enum { TRIED = 39 };
 static void (*const TRIES[TRIED])(void) = {
     try_move, try_move, try_move, try_move, try_move, try_move, try_move, try_move, try_back, try_back, try_back, try_back, try_check, try_check,
     try_shown, try_shown, try_reading, try_write, try_open, try_open, try_reopen, try_reopen, try_reopen, try_reopen, try_cell, try_cell_yes_no,
     try_board_yes_no, try_left, try_keypad, try_play, try_notes, try_grid, try_grid,
-    try_read_line, try_read_line, try_write_line, try_line_and_back,
+    try_read_line, try_read_line, try_write_line, try_line_and_back, try_bounce, try_marks,
 };
 
 static void report(void)
 {
     for (int call = 0; call < CALLS; call++)
         printf("%-22s %9llu calls %9llu accepted\n", LISTED[call].name, (unsigned long long)calls_of[call], (unsigned long long)accepted_of[call]);
-    printf("numbers:");
+    printf("a record's move refused by:");
+    for (int n = 0; n < 256; n++)
+        if (moves_refused_by[n] != 0)
+            printf(" %d: %llu;", n, (unsigned long long)moves_refused_by[n]);
+    printf("\nnumbers:");
     for (int n = 0; n < 256; n++)
         if (refusals_by[n] != 0)
             printf(" %d: %llu;", n, (unsigned long long)refusals_by[n]);
     printf("\n%llu calls, seed %llu: nothing outside of what was lent, nothing out of order\n", (unsigned long long)made_calls, (unsigned long long)seed);
 }
 
-/* A run of some length meets every number and has each call accepted; a run that does not tests less than it says. */
+/* A run of some length meets every number, 10 and 11 where a record's move is refused, and has each call accepted; a
+ * run that does not tests less than it says. */
 static int met_everything(void)
 {
     int met = refusals_by[PAWDOKU_NO_CALL] != 0;
-    for (int n = 0; n <= PAWDOKU_NO_LINE_CHARACTER; n++)
-        met = met && refusals_by[n] != 0;
+    for (uint8_t n = 0; n <= PAWDOKU_NO_LINE_CHARACTER; n++) {
+        met = met && (refusals_by[n] != 0 || is_of_a_mark(n));
+        met = met && (moves_refused_by[n] != 0 || !is_inner(PAWDOKU_MOVE_REFUSED, n));
+    }
     for (int call = 0; call < CALLS; call++)
         met = met && accepted_of[call] != 0;
     return met;
@@ -719,6 +833,7 @@ int main(int argc, char **argv)
     for (size_t i = 0; i < SITTINGS; i++)
         restart(i);
     try_every_byte();
+    try_every_first_byte();
     while (made_calls < wanted) {
         TRIES[below(TRIED)]();
         size_t i = below(SITTINGS);

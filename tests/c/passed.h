@@ -86,6 +86,7 @@ static void repeat(struct sitting *s, const uint8_t calls[8], size_t times)
     pawdoku_answer a = pawdoku_play(s->board, s->journal, sizeof s->journal, s->checks, sizeof s->checks, list,
                                     4 * times, answers, 4 * times);
     count(PLAY, a.refusal);
+    look_at_answers(answers, times);
     s->board = a.board;
 }
 
@@ -97,7 +98,7 @@ static void restart(size_t i)
     set_puzzle(s, givens[i]);
     must(open_sitting(s), OPEN, "a puzzle that opens is refused");
     if (i == 5)
-        repeat(s, (const uint8_t[8]){PAWDOKU_CALL_WRITE_MARK, 1, 1, 1, PAWDOKU_CALL_STRIKE_MARK, 1, 1, 1},
+        repeat(s, (const uint8_t[8]){PAWDOKU_CALL_PENCIL, 1, 1, 1, PAWDOKU_CALL_PENCIL, 1, 1, 1},
                PAWDOKU_MAX_MOVES - below(2));
     if (i == 6) {
         for (uint8_t n = 1; n <= 9; n++)
@@ -247,12 +248,12 @@ struct aim {
     uint8_t row, column, digit;
 };
 
-static int suits(enum call call, const pawdoku_board *b, size_t cell)
+/* Whether the call may be accepted there; for the pencil, where it is `marked`, with a mark to strike. */
+static int suits(enum call call, int marked, const pawdoku_board *b, size_t cell)
 {
     switch (call) {
     case PLACE: return !b->given[cell];
-    case WRITE_MARK: return b->digits[cell] == 0;
-    case STRIKE_MARK: return b->digits[cell] == 0 && b->notes[cell] != 0;
+    case PENCIL: return b->digits[cell] == 0 && (!marked || b->notes[cell] != 0);
     default: return b->digits[cell] != 0 && !b->given[cell];
     }
 }
@@ -274,15 +275,16 @@ static struct aim take_aim(enum call call, const pawdoku_board *b)
     a.digit = line();
     if (one_in(2))
         return a;
+    const int marked = call == PENCIL && one_in(2);
     size_t start = below(PAWDOKU_CELLS), i = 0;
-    while (i < PAWDOKU_CELLS && !suits(call, b, (start + i) % PAWDOKU_CELLS))
+    while (i < PAWDOKU_CELLS && !suits(call, marked, b, (start + i) % PAWDOKU_CELLS))
         i++;
     if (i == PAWDOKU_CELLS)
         return a;
     size_t cell = (start + i) % PAWDOKU_CELLS;
     a.row = (uint8_t)(cell / 9 + 1);
     a.column = (uint8_t)(cell % 9 + 1);
-    if (call == STRIKE_MARK)
+    if (marked)
         a.digit = lowest_mark(b->notes[cell]);
     if (call == PLACE && one_in(2))
         a.digit = b->solution[cell];

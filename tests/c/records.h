@@ -79,7 +79,7 @@ static size_t put_many_moves(uint8_t *record, size_t n, struct aim at)
 /* A record put together item by item, so that it is sometimes sound and otherwise nearly. */
 static size_t compose(const struct sitting *s, uint8_t *record)
 {
-    const struct aim at = take_aim(WRITE_MARK, &s->board);
+    const struct aim at = take_aim(PENCIL, &s->board);
     size_t n = put_givens(record, s), moves = below(5);
     if (one_in(40))
         n = put_many_moves(record, n, at);

@@ -184,7 +184,7 @@ static void add_pencilling(void)
     const pawdoku_peer_cells all = pawdoku_peers(1);
     for (size_t i = 0; i < sizeof all.cells; i++) {
         const int peer = all.cells[i] - 1;
-        add(PAWDOKU_CALL_WRITE_MARK, (uint8_t)(peer / 9 + 1), (uint8_t)(peer % 9 + 1), 1);
+        add(PAWDOKU_CALL_PENCIL, (uint8_t)(peer / 9 + 1), (uint8_t)(peer % 9 + 1), 1);
     }
 }
 
@@ -201,7 +201,7 @@ static void fill_journal(void)
         add(PAWDOKU_CALL_ERASE, 1, 1, 0);
     }
     for (size_t left_over = PAWDOKU_MAX_MOVES % round; left_over > 0; left_over--)
-        add(left_over % 2 == 0 ? PAWDOKU_CALL_WRITE_MARK : PAWDOKU_CALL_STRIKE_MARK, 9, 9, 1);
+        add(PAWDOKU_CALL_PENCIL, 9, 9, 1);
     run_list();
     if (at.board.made != PAWDOKU_MAX_MOVES || at.board.checks != PAWDOKU_MAX_CHECKS)
         fail("the journal or the check memory is not full");
@@ -270,10 +270,14 @@ static void place_at(uint8_t row, uint8_t column, uint8_t digit)
     answer = pawdoku_place(at.board, at.journal, sizeof at.journal, row, column, digit);
 }
 
+static void pencil_at(uint8_t row, uint8_t column, uint8_t digit)
+{
+    answer = pawdoku_pencil(at.board, at.journal, sizeof at.journal, row, column, digit);
+}
+
 ON_EVERY(all_place, place_at(1, 1, 1); place_at(9, 9, solution[PAWDOKU_CELLS - 1]); place_at(9, 9, 1))
 ON_EVERY(all_erase, answer = pawdoku_erase(at.board, at.journal, sizeof at.journal, 1, 1))
-ON_EVERY(all_write_mark, answer = pawdoku_write_mark(at.board, at.journal, sizeof at.journal, 9, 9, 9))
-ON_EVERY(all_strike_mark, answer = pawdoku_strike_mark(at.board, at.journal, sizeof at.journal, 1, 2, 1))
+ON_EVERY(all_pencil, pencil_at(9, 9, 9); pencil_at(1, 2, 1))
 ON_EVERY(all_undo, answer = pawdoku_undo(at.board, at.journal, sizeof at.journal))
 ON_EVERY(all_redo, answer = pawdoku_redo(at.board, at.journal, sizeof at.journal))
 ON_EVERY(all_check, checked = pawdoku_check(at.board, at.checks, sizeof at.checks, 1, 1))
@@ -303,12 +307,12 @@ static void all_reading(void)
     }
 }
 
-/* Each kind of call after each other, and one that is none. */
+/* Each call after each other, and one that is none. */
 static void all_play(void)
 {
     list_length = 0;
-    for (uint8_t first = 1; first <= PAWDOKU_CALL_REDO; first++)
-        for (uint8_t second = 1; second <= PAWDOKU_CALL_REDO; second++) {
+    for (uint8_t first = PAWDOKU_CALL_PLACE - 1; first <= PAWDOKU_CALL_CHECK; first++)
+        for (uint8_t second = PAWDOKU_CALL_PLACE - 1; second <= PAWDOKU_CALL_CHECK; second++) {
             add(first, 1, 1, 1);
             add(second, 1, 2, 1);
         }
@@ -375,8 +379,7 @@ static const struct {
     {"open", all_open},
     {"place", all_place},
     {"erase", all_erase},
-    {"write_mark", all_write_mark},
-    {"strike_mark", all_strike_mark},
+    {"pencil", all_pencil},
     {"undo", all_undo},
     {"redo", all_redo},
     {"check", all_check},
