@@ -8,7 +8,7 @@ use mathlib.Core.List.{List, [], ◌∷◌, ◌++◌}
 use native.Mathlib.Omega.{arith}
 use lib.Dec.{eqb}
 use lib.ListN.{length, take, length-append}
-use lib.Seq.{take_all, length-take-le}
+use lib.Seq.{take_all}
 use borrow.Author.Tests.{not-true, not-false, eqb-true, eqb-false}
 use Rattle.puzzle.specs.Givens.{is_on, given_cells, is_given}
 use Rattle.sudoku.specs.Tests.{◌⇒◌, first, both, count}
@@ -31,7 +31,7 @@ use Rattle.calls.specs.declared.Call.TheVariants.{Make, Undo, Redo, Check}
 use Rattle.demands.specs.Book.{Book, new_book, made, perform_all, state_in, refused_by, added, taken, with_moves, check_in, step, keep}
 use Rattle.demands.specs.Opens.{Opens}
 use Rattle.demands.proofs.Opening.{opening_free}
-use Rattle.demands.proofs.Plays.{Passes, Plays, plays_append, plays_take}
+use Rattle.demands.proofs.Plays.{Passes, Plays, plays_append, plays_take, length_one_more}
 use Rattle.demands.proofs.Refusals.{first_last, after_step, refused_added, refused_undo, refused_redo, refused_check}
 use Rattle.demands.proofs.Reached.{reached_fit, reached_given, reached_is_given}
 use Rattle.demands.proofs.OneLeft.{right_solves}
@@ -132,10 +132,6 @@ module _ (k : Book) (g : Good k) where
   unfolding state_in
   good_is_given cell = reached_is_given k.givens k.solution g.opens (take k.standing k.moves) standing_plays cell
 
-  standing_length : length (take k.standing k.moves) ≡ k.standing
-  unfolding made
-  standing_length = length-take-le k.standing k.moves g.within
-
   good_make : (a : Play) → refused_by k (Make a) ≡ 0 → Good (taken k (Make a))
   unfolding taken with_moves made state_in Plays
   good_make a p =
@@ -154,7 +150,7 @@ module _ (k : Book) (g : Good k) where
       m = added (state_in k) a
 
       counted : length (take k.standing k.moves ++ (m ∷ [])) ≡ k.standing + 1
-      counted = length-append (take k.standing k.moves) (m ∷ []) ∙ ap (λ (n : ℕ). n + 1) standing_length
+      counted = length_one_more k.moves k.standing m g.within
 
   -- the same moves with another standing count
   good_standing : (n : ℕ) → n ≤ made k → (is_on (perform_all (opening k.givens) k.moves).solved ≡ true → ⊥) → Good (with_moves k k.moves n)

@@ -32,7 +32,7 @@ use Rattle.calls.specs.declared.Call.TheVariants.{Make, Check}
 use Rattle.play.specs.declared.Play.{Play}
 use Rattle.demands.specs.Book.{Book, made, perform_all, state_in, slots_from, slots_in, added, taken, with_moves, check_in}
 use Rattle.demands.specs.Demand3.{board_in}
-use Rattle.demands.proofs.Plays.{move_no, slots_append, slots_length, slots_in_two}
+use Rattle.demands.proofs.Plays.{move_no, slots_append, slots_length, slots_in_two, length_one_more}
 use Rattle.demands.proofs.Good.{Good, good_fit}
 use Rattle.demands.proofs.Slots.{journal_slot}
 
@@ -131,7 +131,7 @@ module _ (journal checks : List ℕ) (k : Book) (h : Held journal checks k) wher
       fits = omega (arith, h.journal_length_lem)
 
       counted : slot_bytes * length (take k.standing k.moves ++ (m ∷ [])) ≡ slot_bytes * k.standing + slot_bytes
-      counted = omega (arith, length-append (take k.standing k.moves) (m ∷ []), length-take-le k.standing k.moves u)
+      counted = omega (arith, length_one_more k.moves k.standing m u)
 
   -- one check more: its six bytes laid over the check memory behind the others
   pub held_check : (row column : ℕ) → length k.checks < max_checks

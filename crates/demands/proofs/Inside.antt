@@ -2,7 +2,7 @@
 -- tests that each call's definition lists, whatever they test.
 -- Assumes nothing.
 use Prim.Native.Nat.{ℕ, zero, suc, ◌+◌}
-use mathlib.Core.Path.{◌≡◌, refl, ap}
+use mathlib.Core.Path.{◌≡◌, refl}
 use mathlib.Core.Bool.{Bool, true, false, not}
 use mathlib.Core.List.{List, [], ◌∷◌}
 use lib.Dec.{eqb, leb}
@@ -11,7 +11,7 @@ use borrow.Author.Tests.{not-true}
 use Rattle.std.specs.Prelude.{Option, Some, None}
 use Rattle.sudoku.specs.Tests.{Test, ◌⇒◌, first, pick, both, either}
 use Rattle.sudoku.specs.Grid.{in_range, on_grid, cell_of, at, peers_of}
-use Rattle.sudoku.proofs.Walks.{not_is_true, both_true, both_left, both_right}
+use Rattle.sudoku.proofs.Walks.{not_is_true, both_true, both_left, both_right, either_left, either_right}
 use Rattle.puzzle.specs.declared.Refusal.{Refusal}
 use Rattle.puzzle.specs.declared.Given.{Given}
 use Rattle.puzzle.specs.Refusals.{refusal, accepted, is_accepted, refused_if, or_else, first_refused}
@@ -20,6 +20,7 @@ use Rattle.puzzle.specs.Vouch.{nothing_left, solution_digit, first_holding, solu
 use Rattle.journal.specs.declared.Move.{Move}
 use Rattle.journal.specs.declared.Asked.{Asked}
 use Rattle.journal.specs.Limits.{journal_bytes}
+use Rattle.journal.proofs.NoteCells.{pick_either}
 use Rattle.board.specs.declared.Board.{Board}
 use Rattle.board.specs.declared.Answer.{Answer}
 use Rattle.board.specs.Board.{state_of, is_board, lent_tests}
@@ -54,25 +55,16 @@ unfoldable spares : List Test → Bool
 spares [] = true
 spares (t ∷ ts) = both (not (of_marks t.number)) (spares ts)
 
-spared_pick : (t : Bool) (m n : ℕ) → of_marks m ≡ false → of_marks n ≡ false → of_marks (pick t m n) ≡ false
-unfolding pick
-spared_pick true m n p q = p
-spared_pick false m n p q = q
-
 -- so neither is what the list gives
 first_spared : (ts : List Test) → spares ts ≡ true → of_marks (first ts) ≡ false
 unfolding first spares of_marks either
 first_spared [] p = refl
-first_spared (t ∷ ts) p = spared_pick t.holds t.number (first ts) (not-true _ (both_left _ _ p)) (first_spared ts (both_right _ _ p))
+first_spared (t ∷ ts) p = pick_either (λ (n : ℕ). of_marks n ≡ false) t.holds t.number (first ts) (not-true _ (both_left _ _ p)) (first_spared ts (both_right _ _ p))
 
 -- ---- refusals
 
 abbrev Inside : Refusal → Type 0
 Inside r = inside_29 r ≡ true
-
-either_left : (t u : Bool) → t ≡ true → either t u ≡ true
-unfolding either
-either_left t u p = ap (λ (v : Bool). either v u) p
 
 in_inner : (n place inner : ℕ) → of_marks n ≡ false → of_marks inner ≡ false → Inside (refusal n place inner)
 unfolding inside_29
@@ -87,24 +79,10 @@ in_slot : (ts : List Test) (slot : ℕ) → spares ts ≡ true → Inside (slot_
 unfolding slot_refusal
 in_slot ts slot p = in_tests ts (pick (eqb (first ts) 14) slot 0) p
 
--- any inner number, beside 29 and beside 25
-either_true : (t : Bool) → either t true ≡ true
-unfolding either
-either_true true = refl
-either_true false = refl
-
-in_29 : (place inner : ℕ) → Inside (refusal 29 place inner)
-unfolding worded
-in_29 place inner = either_true (not (of_marks inner))
-
-in_25 : (place inner : ℕ) → Inside (refusal 25 place inner)
-unfolding worded
-in_25 place inner = either_true (not (of_marks inner))
-
-in_pick : {A : Type 0} (of : A → Refusal) (t : Bool) (a b : A) → Inside (of a) → Inside (of b) → Inside (of (pick t a b))
-unfolding pick
-in_pick of true a b p q = p
-in_pick of false a b p q = q
+-- where 10 may be the inner number, any may: beside 29 and beside 25
+in_named : (n place inner : ℕ) → Inside (refusal n place 10) → Inside (refusal n place inner)
+unfolding inside_29 of_marks either
+in_named n place inner h = both_true _ _ (both_left _ _ h) (either_right _ _ (both_right _ _ h))
 
 in_none : Inside accepted
 unfolding worded
@@ -112,11 +90,11 @@ in_none = refl
 
 in_if : (t : Bool) (r : Refusal) → Inside r → Inside (refused_if t r)
 unfolding refused_if
-in_if t r p = in_pick (λ x. x) t r accepted p in_none
+in_if t r p = pick_either Inside t r accepted p in_none
 
 in_or : (a b : Refusal) → Inside a → Inside b → Inside (or_else a b)
 unfolding or_else
-in_or a b p q = in_pick (λ x. x) (is_accepted a) b a q p
+in_or a b p q = pick_either Inside (is_accepted a) b a q p
 
 in_first : (f : ℕ → Refusal) → ((i : ℕ) → Inside (f i)) → (n i : ℕ) → Inside (first_refused f n i)
 unfolding first_refused
@@ -133,19 +111,19 @@ play_spares b journal (play.Pencil row column digit) = refl
 
 in_play : (b : Board) (journal : List ℕ) (a : Play) → Inside (play_of b journal a).answer.refusal
 unfolding play_of record_move
-in_play b journal a = in_pick (λ (x : Played). x.answer.refusal) _ _ _ in_none (in_tests (call_tests b journal a) 0 (play_spares b journal a))
+in_play b journal a = pick_either (λ (x : Played). Inside x.answer.refusal) _ _ _ in_none (in_tests (call_tests b journal a) 0 (play_spares b journal a))
 
 in_undo : (b : Board) (journal : List ℕ) → Inside (undo_of b journal).refusal
 unfolding undo_of undo_tests undo_before lent_tests worded spares
-in_undo b journal = in_pick (λ (x : Answer). x.refusal) _ _ _ in_none (in_slot (undo_tests b journal) b.standing refl)
+in_undo b journal = pick_either (λ (x : Answer). Inside x.refusal) _ _ _ in_none (in_slot (undo_tests b journal) b.standing refl)
 
 in_redo : (b : Board) (journal : List ℕ) → Inside (redo_of b journal).refusal
 unfolding redo_of redo_tests redo_before lent_tests worded spares
-in_redo b journal = in_pick (λ (x : Answer). x.refusal) _ _ _ in_none (in_slot (redo_tests b journal) (b.standing + 1) refl)
+in_redo b journal = pick_either (λ (x : Answer). Inside x.refusal) _ _ _ in_none (in_slot (redo_tests b journal) (b.standing + 1) refl)
 
 in_check : (b : Board) (checks : List ℕ) (row column : ℕ) → Inside (check_of b checks row column).answer.refusal
 unfolding check_of check_tests lent_tests worded spares
-in_check b checks row column = in_pick (λ (x : CheckPlayed). x.answer.refusal) _ _ _ in_none (in_tests (check_tests b checks row column) 0 refl)
+in_check b checks row column = pick_either (λ (x : CheckPlayed). Inside x.answer.refusal) _ _ _ in_none (in_tests (check_tests b checks row column) 0 refl)
 
 in_call : (s : Session) (c : Call) → Inside (call_of s c).said.refusal
 unfolding call_of called
@@ -171,23 +149,23 @@ unfolding vouch nothing_left solution_digit solution_conflict worded
 in_vouch gs solution =
     in_or _ _ (in_if _ _ refl)
     (in_or _ _ (in_first _ (λ i. in_or _ _ (in_if _ _ refl) (in_if _ _ refl)) 81 1)
-    (in_or _ _ (in_first _ (λ i. in_if _ _ (in_25 i (first_holding solution (at solution i) (peers_of i)))) 81 1) (in_givens solution gs 1)))
+    (in_or _ _ (in_first _ (λ i. in_if _ _ (in_named 25 i (first_holding solution (at solution i) (peers_of i)) refl)) 81 1) (in_givens solution gs 1)))
 
 -- what is turned away is refused by what it is turned away for
 in_opened : (givens solution journal checks : List ℕ) → Inside (open_of givens solution journal checks).answer.refusal
 unfolding open_of opened_fresh turned_away wrong_length well_posed worded
 in_opened givens solution journal checks =
-    in_pick (λ (x : Opened). x.answer.refusal) _ _ _
-    (in_pick (λ (x : Opened). x.answer.refusal) _ _ _ refl (in_or _ _ (in_if _ _ refl) (in_vouch (triples givens) solution)))
+    pick_either (λ (x : Opened). Inside x.answer.refusal) _ _ _
+    (pick_either (λ (x : Opened). Inside x.answer.refusal) _ _ _ refl (in_or _ _ (in_if _ _ refl) (in_vouch (triples givens) solution)))
     refl
 
 -- ---- reopening
 
 in_scan : (phase n : ℕ) (is : Items) → Inside (scan phase n is)
 unfolding scan worded
-in_scan phase n ended = in_pick (λ x. x) _ _ _ refl refl
+in_scan phase n ended = pick_either Inside _ _ _ refl refl
 in_scan phase n cut = refl
-in_scan phase n (then i is) = in_pick (λ x. x) _ _ _ (in_scan (reached i) (suc n) is) refl
+in_scan phase n (then i is) = pick_either Inside _ _ _ (in_scan (reached i) (suc n) is) refl
 
 in_unreadable : (bytes solution : List ℕ) → Inside (unreadable bytes solution)
 unfolding unreadable malformed oversized miscounted worded
@@ -199,8 +177,8 @@ in_replay : (ms : List Move) (b : Board) (journal : List ℕ) (k : ℕ) → Insi
 unfolding replay worded
 in_replay [] b journal k = refl
 in_replay (m ∷ ms) b journal k =
-    in_pick (λ (x : Played). x.answer.refusal) _ _ _ refl
-    (in_pick (λ (x : Played). x.answer.refusal) _ _ _ (in_replay ms _ _ (suc k)) (in_29 k (first (move_tests (state_of b) m))))
+    pick_either (λ (x : Played). Inside x.answer.refusal) _ _ _ refl
+    (pick_either (λ (x : Played). Inside x.answer.refusal) _ _ _ (in_replay ms _ _ (suc k)) (in_named 29 k (first (move_tests (state_of b) m)) refl))
 
 in_checks : (b : Board) (cells k : ℕ) (cs : List Asked) → Inside (checks_refusal b cells k cs)
 unfolding checks_refusal check_refusal spares worded
@@ -215,20 +193,20 @@ in_checks b cells k (c ∷ cs) =
 in_reopened : (bytes solution journal checks : List ℕ) → Inside (reopen_of bytes solution journal checks).answer.refusal
 unfolding reopen_of replayed settled_record reopened turned_away wrong_length worded
 in_reopened bytes solution journal checks =
-    in_pick refused _ _ _
-    (in_pick refused _ _ _
-    (in_pick refused _ _ _ (in_pick refused _ _ _ refl (in_or _ _ (in_if _ _ refl) (in_checks _ _ 1 _))) (in_replay _ _ no_moves 1))
+    pick_either Refuses _ _ _
+    (pick_either Refuses _ _ _
+    (pick_either Refuses _ _ _ (pick_either Refuses _ _ _ refl (in_or _ _ (in_if _ _ refl) (in_checks _ _ 1 _))) (in_replay _ _ no_moves 1))
     (in_unreadable bytes solution))
     refl
   where
-    refused : Opened → Refusal
-    refused x = x.answer.refusal
+    Refuses : Opened → Type 0
+    Refuses x = Inside x.answer.refusal
 
 -- ---- writing, readings and lines
 
 in_wrote : (r : Refusal) (bytes output : List ℕ) → Inside r → Inside (wrote_by r bytes output).answer.refusal
 unfolding wrote_by
-in_wrote r bytes output p = in_pick (λ (x : Wrote). x.answer.refusal) _ _ _ in_none p
+in_wrote r bytes output p = pick_either (λ (x : Wrote). Inside x.answer.refusal) _ _ _ in_none p
 
 in_journal : (fits : Bool) (b : Board) (journal : List ℕ) → Inside (journal_refusal fits b journal)
 unfolding journal_refusal unsound_slot lent_tests spares worded
@@ -241,7 +219,7 @@ in_written b journal checks output =
 
 in_reading : (b : Board) (journal : List ℕ) (k : ℕ) → Inside (reading_of b journal k).refusal
 unfolding reading_of reading no_reading reading_refusal worded
-in_reading b journal k = in_pick (λ (x : Reading). x.refusal) _ _ _ refl (in_or _ _ (in_journal _ b journal) (in_if _ _ refl))
+in_reading b journal k = pick_either (λ (x : Reading). Inside x.refusal) _ _ _ refl (in_or _ _ (in_journal _ b journal) (in_if _ _ refl))
 
 in_line_read : (line output : List ℕ) → Inside (read_line_of line output).answer.refusal
 unfolding read_line_of read_refusal line_refusal other_sort worded
@@ -279,7 +257,7 @@ inside =
       line_written = in_line_written;
       latest = λ b journal. first_spared (lent_tests (eqb (length journal) journal_bytes) b ((eqb b.standing 0 ⇒ 12) ∷ [])) refl;
       next = λ b journal. first_spared (lent_tests (eqb (length journal) journal_bytes) b ((leb b.made b.standing ⇒ 13) ∷ [])) refl;
-      cell = λ b row column. in_pick (λ (x : CellAnswer). x.refusal) _ _ _ refl (about_cell b row column);
+      cell = λ b row column. pick_either (λ (x : CellAnswer). Inside x.refusal) _ _ _ refl (about_cell b row column);
       conflicts = λ b row column. about_cell b row column;
       accepts_marks = λ b row column. about_cell b row column;
       holds_players_digit = λ b row column. about_cell b row column;

@@ -7,8 +7,7 @@ use mathlib.Core.Bool.{false}
 use mathlib.Core.List.{List, [], ◌∷◌, ◌++◌}
 use native.Mathlib.Omega.{arith}
 use lib.Dec.{eqb}
-use lib.ListN.{length, take, length-append}
-use lib.Seq.{length-take-le}
+use lib.ListN.{length, take}
 use borrow.Author.Tests.{ne_eqb, eqb-true}
 use Rattle.puzzle.specs.Givens.{is_on}
 use Rattle.sudoku.specs.Tests.{◌⇒◌, first, pick}
@@ -35,7 +34,7 @@ use Rattle.demands.specs.Positions.{E, L}
 use Rattle.demands.specs.Undo.{yes}
 use Rattle.demands.specs.Pencil.{reopening_moves, full_e, OldRules, PencilRows, Bounced, PencilTheorem}
 use Rattle.demands.proofs.Computing.{computing}
-use Rattle.demands.proofs.Plays.{Passes}
+use Rattle.demands.proofs.Plays.{Passes, length_one_more}
 use Rattle.demands.proofs.Refusals.{first_last, passes_unsolved, refused_make, step_taken}
 use Rattle.demands.proofs.Good.{Good, good_taken, good_fit, make_passes}
 use Rattle.demands.proofs.Held.{Held}
@@ -121,12 +120,9 @@ module _ (k : Book) (journal checks : List ℕ) (g : Good k) (h : Held journal c
   both_made : made (taken once (Make press)) ≡ k.standing + 2
   unfolding once taken with_moves made
   both_made =
-      length-append (take (k.standing + 1) (take k.standing k.moves ++ (added (state_in k) press ∷ []))) (added (state_in (taken k (Make press))) press ∷ [])
-      ∙ omega
-      (arith, length-take-le (k.standing + 1) (take k.standing k.moves ++ (added (state_in k) press ∷ [])) (omega (arith, counted)))
-    where
-      counted : length (take k.standing k.moves ++ (added (state_in k) press ∷ [])) ≡ k.standing + 1
-      counted = length-append (take k.standing k.moves) (added (state_in k) press ∷ []) ∙ ap (λ (n : ℕ). n + 1) (length-take-le k.standing k.moves g.within)
+      length_one_more (take k.standing k.moves ++ (added (state_in k) press ∷ [])) (k.standing + 1) (added (state_in (taken k (Make press))) press)
+      (omega (arith, length_one_more k.moves k.standing (added (state_in k) press) g.within))
+      ∙ omega arith
 
   bounced : Bounced (session_of k journal checks) row column digit
   unfolding says_all keep board_in board_of state_of once taken with_moves

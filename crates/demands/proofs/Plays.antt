@@ -7,8 +7,8 @@ use mathlib.Core.List.{List, [], ◌∷◌, ◌++◌, append_assoc}
 use native.Mathlib.Omega.{arith}
 use borrow.Author.Tests.{lt-leb}
 use lib.Dec.{leb}
-use lib.ListN.{length, take, drop, get_or, take-append-drop}
-use lib.Seq.{drop-cons, take-suc}
+use lib.ListN.{length, take, drop, get_or, length-append, take-append-drop}
+use lib.Seq.{drop-cons, take-suc, length-take-le}
 use Rattle.sudoku.specs.Tests.{first}
 use Rattle.sudoku.proofs.Walks.{pick_false}
 use Rattle.journal.specs.declared.Move.{Move}
@@ -89,6 +89,10 @@ module _ (s : State) (ms : List Move) (n : ℕ) where
   slots_in_two = ap (λ (l : List Move). slots_from s l) (sym (take-append-drop n ms)) ∙ slots_append s (take n ms) (drop n ms)
 
 -- ---- the counts
+
+-- a move behind the first n is one more than n
+pub length_one_more : (ms : List Move) (n : ℕ) (m : Move) → n ≤ length ms → length (take n ms ++ (m ∷ [])) ≡ n + 1
+length_one_more ms n m h = length-append (take n ms) (m ∷ []) ∙ ap (λ (i : ℕ). i + 1) (length-take-le n ms h)
 
 -- one move recorded below the limit: those after standing are dropped, and one is added
 pub recorded_one : (made standing : ℕ) → standing ≤ made → standing < max_moves → recorded (counts made standing) ≡ counts (standing + 1) (standing + 1)

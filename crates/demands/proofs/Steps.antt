@@ -9,7 +9,7 @@ use native.Mathlib.Numerals.{add-one}
 use native.Mathlib.Omega.{arith}
 use lib.Dec.{eqb, leb}
 use lib.ListN.{length, take, length-append}
-use lib.Seq.{take_all, length-take-le}
+use lib.Seq.{take_all}
 use borrow.Author.Tests.{eq-eqb, ne_eqb, eqb-true, eqb-false, le-leb, lt-leb, leb-true}
 use Rattle.puzzle.specs.Givens.{is_on}
 use Rattle.sudoku.specs.Tests.{◌⇒◌, first, pick, both}
@@ -35,7 +35,7 @@ use Rattle.calls.specs.declared.Call.TheVariants.{Make, Undo, Redo, Check}
 use Rattle.calls.specs.Session.{Session, Called, called, call_of}
 use Rattle.demands.specs.Book.{Book, made, perform_all, state_in, refused_by, added, taken, with_moves, check_in, slots_in, verdict, step, says}
 use Rattle.demands.specs.Demand3.{board_in}
-use Rattle.demands.proofs.Plays.{Passes, move_no, plays_take, plays_next, perform_append, perform_next, recorded_one}
+use Rattle.demands.proofs.Plays.{Passes, move_no, plays_take, plays_next, perform_append, perform_next, recorded_one, length_one_more}
 use Rattle.demands.proofs.Added.{same_move}
 use Rattle.demands.proofs.Refusals.{passes_unsolved, passes_allowed, refused_make, refused_undo, refused_redo, refused_check, step_taken, step_refused}
 use Rattle.demands.proofs.Reached.{reached_fit}
@@ -111,7 +111,7 @@ module _ (k : Book) (g : Good k) where
   made_state a =
       ap (λ (l : List Move). perform_all (opening k.givens) l)
       (take_all (k.standing + 1) (take k.standing k.moves ++ (added (state_in k) a ∷ []))
-      (omega (arith, length-append (take k.standing k.moves) (added (state_in k) a ∷ []), length-take-le k.standing k.moves g.within)))
+      (omega (arith, length_one_more k.moves k.standing (added (state_in k) a) g.within)))
       ∙ perform_append (opening k.givens) (take k.standing k.moves) (added (state_in k) a ∷ [])
 
   made_count : (a : Play) → k.standing < max_moves → recorded (counts (made k) k.standing) ≡ counts (made (taken k (Make a))) (k.standing + 1)
@@ -119,7 +119,7 @@ module _ (k : Book) (g : Good k) where
   made_count a room =
       recorded_one (made k) k.standing g.within room
       ∙ ap (λ (n : ℕ). counts n (k.standing + 1)) {x = k.standing + 1} {y = length (take k.standing k.moves ++ (added (state_in k) a ∷ []))}
-      (omega (arith, length-append (take k.standing k.moves) (added (state_in k) a ∷ []), length-take-le k.standing k.moves g.within))
+      (omega (arith, length_one_more k.moves k.standing (added (state_in k) a) g.within))
 
 module _ (k : Book) (journal checks : List ℕ) (g : Good k) (h : Held journal checks k) where
   play_number : (a : Play) → first (call_tests (board_in k) journal a) ≡ refused_by k (Make a)

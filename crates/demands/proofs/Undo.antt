@@ -7,7 +7,7 @@ use mathlib.Core.Bool.{true, false}
 use mathlib.Core.List.{List, [], ◌∷◌, ◌++◌, map}
 use native.Mathlib.Omega.{arith}
 use lib.Dec.{eqb}
-use lib.ListN.{length, take, get_or, length-append}
+use lib.ListN.{length, take, get_or}
 use lib.Seq.{take_at, length-take-le}
 use borrow.Author.Tests.{ne_eqb}
 use Rattle.sudoku.specs.Tests.{both}
@@ -30,7 +30,7 @@ use Rattle.calls.specs.Session.{Session, Said, called, call_of, after, answers}
 use Rattle.demands.specs.Book.{Book, made, perform_all, state_in, refused_by, added, taken, with_moves, verdict, step, says, keep, says_all}
 use Rattle.demands.specs.Demand3.{board_in}
 use Rattle.demands.specs.Undo.{digit_after, marked, mark_after, yes, no, Does, AsItWas, TakenBack, Final, Cancel, UndoTheorem}
-use Rattle.demands.proofs.Plays.{Passes}
+use Rattle.demands.proofs.Plays.{Passes, length_one_more}
 use Rattle.demands.proofs.Refusals.{place_passes, erase_passes, pencil_passes, passes_unsolved, refused_undo, refused_redo, step_taken, step_refused}
 use Rattle.demands.proofs.Turned.{pencil_digits, pencil_mark}
 use Rattle.demands.proofs.Reached.{on_the_way}
@@ -163,7 +163,7 @@ module _ (k : Book) (journal checks : List ℕ) (g : Good k) (h : Held journal c
 
     counted : length (take k.standing k.moves ++ (m ∷ [])) ≡ k.standing + 1
     unfolding made
-    counted = length-append (take k.standing k.moves) (m ∷ []) ∙ ap (λ (n : ℕ). n + 1) (length-take-le k.standing k.moves g.within)
+    counted = length_one_more k.moves k.standing m g.within
 
     fit : Fit (state_in k)
     fit = good_fit k g
