@@ -271,8 +271,9 @@ pawdoku_answer pawdoku_erase(pawdoku_board board, uint8_t *journal, size_t journ
                              uint8_t row, uint8_t column);
 /* The pencil key: strikes the mark where it is present, writes it where it is absent. No caller needs to know which.
  * Nor does the library know a second press from a first: a call on the board that the first one answered turns the mark
- * round again, and is a move of its own. So a key that bounces is to be held back by the host. A call whose answer was
- * lost is made again on the board that was passed, and answers the same. Refused by 1 to 4, 7, 8, 15. */
+ * round again, and is a move of its own. So a key that bounces is to be held back by the host; and a host that fills in
+ * marks by itself asks pawdoku_cell first which are present, or it strikes them. A call whose answer was lost is made
+ * again on the board that was passed, and answers the same. Refused by 1 to 4, 7, 8, 15. */
 pawdoku_answer pawdoku_pencil(pawdoku_board board, uint8_t *journal, size_t journal_length,
                               uint8_t row, uint8_t column, uint8_t digit);
 

@@ -111,7 +111,7 @@ impl Session {
     ///
     /// No caller needs to know which. Nor is a second press known from a first: a key that bounces turns the mark round
     /// again, and both presses are moves, recorded and undone each by itself. A session goes on with every answer, so
-    /// never press once more to be sure: [`Self::cell`] says how the mark stands.
+    /// never press once more to be sure, nor to have a mark present that may be: [`Self::cell`] says how it stands.
     ///
     /// # Errors
     ///
