@@ -1,7 +1,7 @@
 -- Puzzle lines of document 02, point 1: 81 characters, row by row, 1 to 9 for a given, a full stop or 0 for a blank,
 -- with at most one line feed after it. Reading one into givens: refusals 34, 36, 37. Writing one: 2, 34.
 -- Assumes nothing.
-use Rattle.std.specs.Prelude.{ℕ, ◌+◌, ◌*◌, Bool, not, List, map, ltb, eqb, length, get_or, take}
+use Rattle.std.specs.Prelude.{ℕ, ◌+◌, ◌*◌, Bool, not, List, map, ltb, eqb, length, get_or, take, replicate}
 use Rattle.sudoku.specs.Tests.{pick, both, either, listed}
 use Rattle.sudoku.specs.Grid.{in_range, at}
 use Rattle.puzzle.specs.declared.Given.{Given}
@@ -10,9 +10,11 @@ use Rattle.puzzle.specs.Refusals.{refusal, refused_if, or_else, first_refused}
 use Rattle.puzzle.specs.Givens.{is_given, givens_by, triple_bytes}
 use Rattle.puzzle.specs.Puzzle.{holds_digit}
 use Rattle.puzzle.specs.Text.{cell_value}
+use Rattle.journal.specs.Bytes.{over}
 use Rattle.board.specs.declared.Board.{Board}
 use Rattle.board.specs.Board.{is_board}
 use Rattle.record.specs.Write.{Wrote, wrote_by}
+use Rattle.lines.specs.declared.Givens.{Givens}
 
 -- ---- what a line says
 
@@ -52,6 +54,10 @@ line_givens line = givens_by (λ cell. in_range (value_at line cell)) (value_at 
 -- the digits of 81 cells as givens: the cells that hold one
 unfoldable pub digits_bytes : List ℕ → List ℕ
 digits_bytes digits = triple_bytes (givens_by (holds_digit digits) (at digits) 81 1)
+
+-- the same at the front of as many bytes as the givens of 81 cells have
+unfoldable pub digits_givens : List ℕ → Givens
+digits_givens digits = record { bytes = over (replicate givens_room 0) 0 (digits_bytes digits); length = length (digits_bytes digits) }
 
 -- ---- reading
 

@@ -11,7 +11,7 @@ ghost use Rattle.puzzle.specs.Givens.{triple_bytes};
 ghost use Rattle.journal.specs.Bytes.{over};
 ghost use Rattle.board.specs.Board.{digit_value};
 ghost use Rattle.lines.specs.Errors.{line_error_refusal};
-ghost use Rattle.lines.specs.Lines.{line_bytes, givens_room, is_line, line_refusal, values_of, line_givens, digits_bytes};
+ghost use Rattle.lines.specs.Lines.{line_bytes, givens_room, is_line, line_refusal, values_of, line_givens, digits_bytes, digits_givens};
 ghost use Rattle.lines.specs.Lines.{read_refusal, read_line_of, character_at, line_of, write_line_refusal, write_line_of};
 ghost use Rattle.lines.specs.Code.Triples.{given_bytes};
 
@@ -33,6 +33,13 @@ pub const LINE_BYTES: usize = CELLS;
 pub const GIVEN_BYTES: usize = 3;
 
 pub const GIVENS_ROOM: usize = GIVEN_BYTES * CELLS;
+
+// Givens as opening takes them: three bytes each, so many bytes in all.
+#[derive(Clone, Copy)]
+pub struct Givens {
+    pub bytes: [u8; GIVENS_ROOM],
+    pub length: usize,
+}
 
 // Whether a text has the length of a line: 81 characters, or a line feed behind them.
 #[tactic(auto, unfolding(crate::specs::Lines::is_line, sudoku::specs::Tests::either, sudoku::specs::Tests::both))]
@@ -95,6 +102,16 @@ pub fn givens_in<'a>(digits: &[u8; CELLS], room: &'a mut [u8; GIVENS_ROOM]) -> &
 {
     let length = lay_givens(digits, room);
     &room[..length]
+}
+
+// The same for those who lend no room: zeros stand behind the givens.
+#[tactic(auto, unfolding(crate::specs::Lines::digits_givens))]
+pub fn givens_of(digits: &[u8; 81]) -> Givens
+    ensures { result ≡ digits_givens digits.now }
+{
+    let mut bytes = [0u8; GIVENS_ROOM];
+    let length = lay_givens(digits, &mut bytes);
+    Givens { bytes, length }
 }
 
 // Reads a line into givens; answers how many bytes they have.
