@@ -6,6 +6,7 @@
 
 pub mod checks;
 pub mod moves;
+pub mod numbers;
 pub mod shown;
 pub mod sound;
 pub mod tests;

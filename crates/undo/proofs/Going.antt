@@ -59,6 +59,11 @@ module _ (w : Way) (laws : Laws w) where
   unfolding fits
   fits_parts s slot h = and_both _ _ ∙ laws.stood s slot h ∙ sym (both_first _ _ h)
 
+  -- what is refused before its slot is asked has no place
+  pub before_below : (b : Board) (bytes : ℕ) → first (before_slot w b bytes) < 14
+  unfolding before_slot lent_tests
+  before_below b bytes = first_below _ (omega arith, (omega arith, (omega arith, (laws.below_14 (counts_of b), tt))))
+
   module _ (b : Board) (journal : List ℕ) where
     -- the slot that is asked
     abbrev asked : Slot
@@ -71,16 +76,12 @@ module _ (w : Way) (laws : Laws w) where
     unfolding before_slot lent_tests
     numbered = (omega arith, (omega arith, (omega arith, (laws.numbered (counts_of b), tt))))
 
-    below : first (before_slot w b (length journal)) < 14
-    unfolding before_slot lent_tests
-    below = first_below _ (omega arith, (omega arith, (omega arith, (laws.below_14 (counts_of b), tt))))
-
     -- refused before its slot is asked
     pub stopped : (e : PlayError) → play_number e ≡ first (before_slot w b (length journal)) → answer (play_refusal e) b ≡ call_of w b journal
     unfolding call_of
     stopped e p =
         let q = told_err e (before_slot w b (length journal)) ((not (fits w (state_of b) asked) ⇒ 14) ∷ []) p in
-        ap (λ r. answer r b) (slot_plain (play_number e) _ (w.slot (counts_of b)) (omega (arith, p, below)) q)
+        ap (λ r. answer r b) (slot_plain (play_number e) _ (w.slot (counts_of b)) (omega (arith, p, before_below b (length journal))) q)
         ∙ sym (pick_false _ _ _ (ne_eqb _ 0 (λ z. omega (arith, has_number e, q, z))))
 
     module _ (p : 0 ≡ first (before_slot w b (length journal))) where

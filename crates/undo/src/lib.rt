@@ -3,11 +3,12 @@
 // digit and marks when it changes them; a refused one puts the board back.
 #![tactic(auto)]
 
+pub mod asking;
 pub mod digits;
 pub mod direction;
 pub mod marks;
 
-ghost use Rattle.std.specs.Prelude.{◌≡◌, length, IfOk};
+ghost use Rattle.std.specs.Prelude.{◌≡◌, IfOk};
 ghost use Rattle.sudoku.specs.Tests.{first};
 ghost use Rattle.puzzle.specs.Refusals.{told};
 ghost use Rattle.journal.specs.State.{perform_again};
@@ -28,13 +29,13 @@ use play::sound::Unsound;
 use puzzle::Refusal;
 use puzzle::answer::accepted;
 
-// The number of the slot that a call asks. Refused by 1 2 4, and by 12 or 13.
+// The number of the slot that a call asks, of a journal of so many bytes. Refused by 1 2 4, and by 12 or 13.
 #[tactic(auto, unfolding(sudoku::specs::Tests::first, sudoku::specs::Tests::pick, board::specs::Board::lent_tests, board::specs::Board::counts_of, crate::specs::Code::Ways::before_slot))]
-fn slot_asked<D: Direction>(board: Board, journal: &[u8]) -> Result<usize, PlayError>
-    ensures number { number_told result ≡ first (before_slot D.way board (length journal.now)) }
+fn slot_asked<D: Direction>(board: Board, length: usize) -> Result<usize, PlayError>
+    ensures number { number_told result ≡ first (before_slot D.way board length) }
     ensures slot { IfOk result (λ n. n ≡ D.way.slot (counts_of board)) }
 {
-    lent(board, journal.len() == JOURNAL_BYTES)?;
+    lent(board, length == JOURNAL_BYTES)?;
     if board.solved != 0 {
         return Err(PlayError::Solved);
     }
@@ -48,7 +49,7 @@ fn go<D: Direction>(board: &mut Board, before: Board, journal: &[u8]) -> Result<
     requires { board.old ≡ before }
     ensures { answer (told (λ r. r) result) board.new ≡ call_of D.way before journal.now }
 {
-    let n = slot_asked::<D>(before, journal)?;
+    let n = slot_asked::<D>(before, journal.len())?;
     let slot = slot_at(journal, n);
     if !is_sound(&board.given, slot) {
         return Err(Refusal::from(Unsound::Slot { index: n })); // before anything is changed
