@@ -90,15 +90,16 @@ pub fn stack(column: u8) -> u8
     box_index(column)
 }
 
-// Whether two positions share a row, a column or a box and are not the same.
+// Whether two positions share a row, a column or a box and are not the same. The row is asked first, since bands and
+// stacks are divisions.
 #[tactic(auto, unfolding(crate::specs::Grid::is_peer_of, crate::specs::Tests::both, crate::specs::Tests::either))]
 pub fn is_peer_of(row: u8, column: u8, row2: u8, column2: u8) -> bool
     ensures { result ≡ is_peer_of row column row2 column2 }
 {
-    let same_row = row == row2;
-    let same_column = column == column2;
-    let same_box = band(row) == band(row2) && stack(column) == stack(column2);
-    (same_row || same_column || same_box) && !(same_row && same_column)
+    if row == row2 {
+        return column != column2;
+    }
+    column == column2 || band(row) == band(row2) && stack(column) == stack(column2)
 }
 
 // The twenty peers of a cell, ascending; twenty zeros where there is no such cell.
