@@ -3,25 +3,45 @@ ghost use Rattle.std.specs.Prelude.{◌<◌};
 
 use puzzle::Refusal;
 
-// What of a block is left to be read; None once more was read than it has: it gives zeros and empty parts then.
+// The bytes of a block, and the place where reading stands. Reading goes on by the layout also where the block is
+// shorter: each byte behind its end is 0, and a part that is not whole there is empty.
 #[derive(Clone, Copy)]
 pub struct Block<'a> {
-    rest: Option<&'a [u8]>,
+    bytes: &'a [u8],
+    at: usize,
 }
 
 impl<'a> Block<'a> {
-    pub fn new(bytes: &'a [u8]) -> Block<'a> {
-        Block { rest: Some(bytes) }
+    pub(crate) fn new(bytes: &'a [u8]) -> Block<'a> {
+        Block { bytes, at: 0 }
     }
 
-    // The next bytes; none where there are not as many.
-    pub fn bytes(&mut self, length: usize) -> &'a [u8] {
-        let parts = self.rest.and_then(|rest| rest.split_at_checked(length));
-        self.rest = parts.map(|(_, rest)| rest);
-        parts.map_or(&[], |(bytes, _)| bytes)
+    // No place in a block comes near the greatest number, so no sum here stays at it.
+    fn go_on(&mut self, length: usize) {
+        self.at = self.at.saturating_add(length);
     }
 
-    pub fn byte(&mut self) -> u8 {
+    // The next bytes where all of them are there, and none otherwise.
+    fn next(&self, length: usize) -> &'a [u8] {
+        let rest = self.bytes.get(self.at..);
+        rest.and_then(|rest| rest.get(..length)).unwrap_or(&[])
+    }
+
+    // The next bytes, behind which reading goes on whether they are there or not.
+    pub(crate) fn bytes(&mut self, length: usize) -> &'a [u8] {
+        let part = self.next(length);
+        self.go_on(length);
+        part
+    }
+
+    // The next bytes; where they are not there, reading goes on where it stood.
+    pub(crate) fn present(&mut self, length: usize) -> &'a [u8] {
+        let part = self.next(length);
+        self.go_on(part.len());
+        part
+    }
+
+    pub(crate) fn byte(&mut self) -> u8 {
         match self.bytes(1) {
             [byte] => *byte,
             _ => 0,
@@ -29,21 +49,21 @@ impl<'a> Block<'a> {
     }
 
     // Two bytes, low first.
-    pub fn number(&mut self) -> usize
+    pub(crate) fn number(&mut self) -> usize
         ensures { result < 65536 }
     {
         usize::from(self.note())
     }
 
-    pub fn note(&mut self) -> u16 {
-        match self.bytes(2) {
-            [low, high] => u16::from_le_bytes([*low, *high]),
-            _ => 0,
-        }
+    // Two bytes, each read by itself: where a block ends between them, the low one counts.
+    pub(crate) fn note(&mut self) -> u16 {
+        let low = self.byte();
+        let high = self.byte();
+        u16::from_le_bytes([low, high])
     }
 
     // The notes of a grid.
-    pub fn notes(&mut self) -> [u16; 81] {
+    pub(crate) fn notes(&mut self) -> [u16; 81] {
         let mut notes = [0u16; 81];
         for note in notes.iter_mut() {
             *note = self.note();
@@ -52,7 +72,7 @@ impl<'a> Block<'a> {
     }
 
     // Number, place and inner number.
-    pub fn refusal(&mut self) -> Refusal {
+    pub(crate) fn refusal(&mut self) -> Refusal {
         Refusal {
             number: self.byte(),
             place: self.number(),
@@ -61,7 +81,7 @@ impl<'a> Block<'a> {
     }
 
     // Whether all of it was read, and no more.
-    pub fn is_read(&self) -> bool {
-        self.rest.is_some_and(|rest| rest.is_empty())
+    pub(crate) fn is_read(&self) -> bool {
+        self.at == self.bytes.len()
     }
 }

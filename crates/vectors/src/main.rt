@@ -33,7 +33,7 @@ fn replayed(bytes: &[u8], tally: &mut Tally) -> bool {
 }
 
 // Reads one block, two bytes of length before it, and replays it. Where the input ends there is no more; a block cut
-// short differs.
+// short differs, and so does each byte of a length cut short.
 fn next_block(tally: &mut Tally) -> bool {
     let mut header = [0u8; 2];
     let got = io::read_full(STDIN, &mut header);
@@ -51,11 +51,15 @@ fn next_block(tally: &mut Tally) -> bool {
     replayed(block, tally)
 }
 
-// A proved loop has to end, and nothing says that the input does: it takes as many turns as no input uses up.
+// A proved loop has to end, and nothing says that the input does: it takes as many turns as no input uses up. Each
+// block is counted by itself and then added, so that a count which is too large to grow ends with a whole block.
 fn replay() -> Tally {
     let mut tally = Tally::default();
     for _ in 0..u64::MAX {
-        if !next_block(&mut tally) {
+        let mut block = Tally::default();
+        let more = next_block(&mut block);
+        tally.add(block);
+        if !more {
             break;
         }
     }

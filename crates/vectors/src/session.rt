@@ -17,7 +17,7 @@ use pawdoku::saved::{pawdoku_open, pawdoku_reopen, pawdoku_write};
 use pawdoku::slots::pawdoku_reading;
 use puzzle::digit_at;
 use record::RECORD_BYTES;
-use sudoku::{CELLS, LINE, SIDE};
+use sudoku::{CELLS, SIDE};
 
 // Room for the answers to the calls of a session: no stored one has as many.
 const ANSWERS: usize = 16384;
@@ -49,7 +49,7 @@ fn calls(block: &mut Block, game: &mut Game, tally: &mut Tally) {
         &mut answers,
     );
     game.board = answer.board;
-    tally.expect_all(front(&answers, list.len()), stored);
+    tally.expect_all(stored, front(&answers, CALL_BYTES * n));
     count(&mut tally.calls, n);
 }
 
@@ -99,10 +99,11 @@ fn cells(block: &mut Block, board: Board, tally: &mut Tally) {
 
 // Digits left for each key, one byte each: asked for the whole keypad, and for each key by itself.
 fn keys(block: &mut Block, board: Board, tally: &mut Tally) {
-    let stored = block.bytes(LINE);
-    tally.expect_all(&pawdoku_keypad(board).left, stored);
-    for (key, left) in (1..=SIDE).zip(stored) {
-        tally.expect(pawdoku_digits_left(board, key).left == *left);
+    let keypad = pawdoku_keypad(board).left;
+    for (key, left) in (1..=SIDE).zip(keypad.iter()) {
+        let stored = block.byte();
+        tally.expect(*left == stored);
+        tally.expect(pawdoku_digits_left(board, key).left == stored);
     }
 }
 
@@ -114,7 +115,19 @@ fn line(givens: &[u8], board: Board, tally: &mut Tally) {
     let back = pawdoku_read_line(&text, &mut read);
     tally.expect(written.refusal.outcome().is_ok());
     tally.expect(back.refusal.outcome().is_ok());
-    tally.expect_all(front(&read, back.length), givens);
+    tally.expect_all(givens, front(&read, back.length));
+}
+
+// Whether a reopened board is the one that was played: its arrays, entry by entry, its status and its counts.
+fn same_board(played: Board, reopened: Board, tally: &mut Tally) {
+    tally.expect_all(&played.digits, &reopened.digits);
+    tally.expect_all(&played.given, &reopened.given);
+    tally.expect_all(&played.notes, &reopened.notes);
+    tally.expect_all(&played.solution, &reopened.solution);
+    tally.expect(played.solved == reopened.solved);
+    tally.expect(played.made == reopened.made);
+    tally.expect(played.standing == reopened.standing);
+    tally.expect(played.checks == reopened.checks);
 }
 
 // The record as it stands in the block, reopened: the same board, the same slots and the same checks.
@@ -123,11 +136,11 @@ fn reopened(record: &[u8], game: &Game, tally: &mut Tally) {
     let mut checks = [0u8; CHECK_MEMORY];
     let answer = pawdoku_reopen(record, &game.board.solution, &mut journal, &mut checks);
     tally.expect(answer.refusal.outcome().is_ok());
-    tally.expect(answer.board == game.board);
+    same_board(game.board, answer.board, tally);
     let moves = SLOT_BYTES * game.board.made.min(MAX_MOVES);
-    tally.expect_all(front(&journal, moves), front(&game.journal, moves));
+    tally.expect_all(front(&game.journal, moves), front(&journal, moves));
     let asked = CHECK_BYTES * game.board.checks.min(MAX_CHECKS);
-    tally.expect_all(front(&checks, asked), front(&game.checks, asked));
+    tally.expect_all(front(&game.checks, asked), front(&checks, asked));
 }
 
 // The record's length and the record: written by the board, and reopened.
@@ -137,7 +150,7 @@ fn record(block: &mut Block, game: &Game, tally: &mut Tally) {
     let mut output = [0u8; RECORD_BYTES];
     let written = pawdoku_write(game.board, &game.journal, &game.checks, &mut output);
     tally.expect(written.refusal.outcome().is_ok());
-    tally.expect_all(front(&output, written.length), stored);
+    tally.expect_all(stored, front(&output, written.length));
     reopened(stored, game, tally);
 }
 
@@ -164,18 +177,18 @@ fn readings(block: &mut Block, game: &Game, tally: &mut Tally) {
 // The givens of a block, three bytes each behind their number.
 fn givens<'a>(block: &mut Block<'a>) -> &'a [u8] {
     let n = usize::from(block.byte());
-    block.bytes(GIVEN_BYTES * n)
+    block.present(GIVEN_BYTES * n)
 }
 
 // A whole session. Where opening is refused, nothing more is stored.
-pub fn session(block: &mut Block, tally: &mut Tally) {
+pub(crate) fn session(block: &mut Block, tally: &mut Tally) {
     count(&mut tally.sessions, 1);
     let mut journal = [0u8; JOURNAL_BYTES];
     let mut checks = [0u8; CHECK_MEMORY];
     let solution = block.bytes(CELLS);
     let givens = givens(block);
     let opened = pawdoku_open(givens, solution, &mut journal, &mut checks);
-    tally.expect(opened.refusal == block.refusal());
+    tally.expect_refusal(opened.refusal, block.refusal());
     let mut game = Game {
         board: opened.board,
         journal,
@@ -194,7 +207,7 @@ pub fn session(block: &mut Block, tally: &mut Tally) {
 }
 
 // A record and the answer to reopening it: solution, answer, record.
-pub fn reopening(block: &mut Block, tally: &mut Tally) {
+pub(crate) fn reopening(block: &mut Block, tally: &mut Tally) {
     count(&mut tally.reopenings, 1);
     let mut journal = [0u8; JOURNAL_BYTES];
     let mut checks = [0u8; CHECK_MEMORY];
@@ -203,5 +216,5 @@ pub fn reopening(block: &mut Block, tally: &mut Tally) {
     let length = block.number();
     let record = block.bytes(length);
     let answer = pawdoku_reopen(record, solution, &mut journal, &mut checks);
-    tally.expect(answer.refusal == stored);
+    tally.expect_refusal(answer.refusal, stored);
 }
