@@ -2,5 +2,5 @@
 #![tactic(auto)]
 
 fn main(rt: HostRuntime) {
-    terminal::run(&rt, &mut rt.stdin(), &rt.stdout());
+    terminal::run(&rt, rt.stdin(), rt.stdout());
 }

@@ -6,14 +6,14 @@ use std::io::IsTerminal;
 
 // When to colour.
 #[derive(Clone, Copy)]
-pub enum Colour {
+pub(crate) enum Colour {
     OnTerminal,
     Always,
     Never,
 }
 
 impl Colour {
-    pub fn is_on<O: IsTerminal>(self, output: &O) -> bool {
+    pub(crate) fn is_on<O: IsTerminal>(self, output: &O) -> bool {
         match self {
             Colour::OnTerminal => output.is_terminal(),
             Colour::Always => true,
@@ -42,10 +42,10 @@ fn word_of(word: &[u8]) -> Option<Word> {
 // The command line: which of its words are the names of files, and how to colour. It has the numbers of those words and
 // not the words: there is no heap, and a word is laid in memory of whoever reads it.
 #[derive(Clone, Copy)]
-pub struct Arguments {
-    pub file: Option<usize>,
-    pub solution: Option<usize>,
-    pub colour: Colour,
+pub(crate) struct Arguments {
+    pub(crate) file: Option<usize>,
+    pub(crate) solution: Option<usize>,
+    pub(crate) colour: Colour,
 }
 
 impl Arguments {
@@ -64,7 +64,8 @@ impl Arguments {
         }
     }
 
-    // With word i.
+    // With word i. Kept apart: laid into its callers, the word would take its room on the stack until the console ends.
+    #[inline(never)]
     fn with_word<R: Env>(self, rt: &R, i: usize) -> Option<Arguments> {
         let mut memory = [0u8; PATH_MAX];
         match word_of(word(rt, i, &mut memory)?)? {
@@ -74,7 +75,7 @@ impl Arguments {
     }
 
     // The whole command line; none where something in it is wrong.
-    pub fn read<R: Env>(rt: &R) -> Option<Arguments> {
+    pub(crate) fn read<R: Env>(rt: &R) -> Option<Arguments> {
         let mut so_far = Arguments {
             file: None,
             solution: None,

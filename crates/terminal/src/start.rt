@@ -2,6 +2,7 @@
 use crate::arguments::Arguments;
 use crate::input::{Input, Line};
 use board::Board;
+use board::open::zero_board;
 use commands::Game;
 use commands::perform::perform;
 use files::Memory;
@@ -37,7 +38,8 @@ fn is_quit(command: Command<'_>) -> bool {
     matches!((command.verb, command.words), (Verb::Quit, Words::Zero))
 }
 
-// What goes from one line to the next.
+// What goes from one line to the next. Each part is made where it stays: one that is handed on whole is copied, and
+// the copy takes its ten thousand bytes of the stack until the console ends.
 #[derive(Clone, Copy)]
 struct Console {
     game: Game,
@@ -46,7 +48,9 @@ struct Console {
 }
 
 impl Console {
-    // A line that was read, taken apart and performed; answers whether the game goes on.
+    // A line that was read, taken apart and performed; answers whether the game goes on. Kept apart: laid into its
+    // callers, what the commands' calls answer would take its room on the stack also while the first board is loaded.
+    #[inline(never)]
     fn obey<R: Files>(&mut self, rt: &R, text: &[u8]) -> bool {
         if self.echo {
             show(format_args!("{}\n", Printable(text)));
@@ -84,28 +88,19 @@ impl Console {
     }
 }
 
-// The game to start with: the one that the command line names, or the one that is built in.
-fn first_game<R: Files + Env>(rt: &R, args: Arguments, coloured: bool) -> Option<Game> {
-    let mut memory = Memory::new();
+// The board to start with, in the memory that is lent: the one that the command line names, or the one that is built
+// in. Kept apart: laid into its caller, the two names would take their room on the stack until the console ends.
+#[inline(never)]
+fn first_board<R: Files + Env>(rt: &R, args: Arguments, memory: &mut Memory) -> Option<Board> {
     let Some(file) = args.file else {
-        let board = built_in(&mut memory);
-        return Some(Game {
-            board,
-            memory,
-            coloured,
-        });
+        return Some(built_in(memory));
     };
     let right = built_in_solution();
     let mut path = [0u8; PATH_MAX];
     let path = word(rt, file, &mut path).unwrap_or(&[]);
     let mut solution = [0u8; PATH_MAX];
     let solution = args.solution.and_then(|i| word(rt, i, &mut solution));
-    let board = memory.load(rt, path, solution, &right)?;
-    Some(Game {
-        board,
-        memory,
-        coloured,
-    })
+    memory.load(rt, path, solution, &right)
 }
 
 // The game, where the board to start with opens.
@@ -115,24 +110,34 @@ fn begin<R: Files + Env, I: Read + IsTerminal>(
     args: Arguments,
     coloured: bool,
 ) {
-    let Some(game) = first_game(rt, args, coloured) else {
-        return;
-    };
-    show("pawdoku: type a command, as place 1 3 4, or help\n");
-    whole(game.board, game.coloured);
     let mut console = Console {
-        game,
+        game: Game {
+            board: zero_board(),
+            memory: Memory::new(),
+            coloured,
+        },
         input: Input::new(),
         echo: !input.is_terminal(),
     };
+    let Some(board) = first_board(rt, args, &mut console.game.memory) else {
+        return;
+    };
+    console.game.board = board;
+    show("pawdoku: type a command, as place 1 3 4, or help\n");
+    whole(board, coloured);
     console.play(rt, input);
 }
 
 // The console, on an input and an output. They are handed over: the bound `Input` reads a pipe byte by byte, and no
 // bound of a runtime says whether a stream is a terminal.
-pub fn run<R: Files + Env, I: Read + IsTerminal, O: IsTerminal>(rt: &R, input: &mut I, output: &O) {
+pub fn run<R: Files + Env, I: Read + IsTerminal + Drop, O: IsTerminal + Drop>(
+    rt: &R,
+    input: I,
+    output: O,
+) {
+    let mut input = input;
     match Arguments::read(rt) {
-        Some(args) => begin(rt, input, args, args.colour.is_on(output)),
+        Some(args) => begin(rt, &mut input, args, args.colour.is_on(&output)),
         None => show("console [--colour | --plain] [RECORD [SOLUTION] | PUZZLE SOLUTION]\n"),
     }
 }
