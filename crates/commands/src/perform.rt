@@ -32,28 +32,28 @@ use texts::commands::number;
 use texts::{Command, Verb, Words};
 use undo::{redo, undo};
 
-// What a command wants.
+// What a command wants, as a whole line: it is written at once.
 fn wants(verb: Verb) -> &'static str {
     match verb {
-        Verb::Place => "place wants a row, a column and a digit, as in: place 1 3 4",
-        Verb::Mark => "mark wants a row, a column and a digit, as in: mark 1 3 4",
-        Verb::Erase => "erase wants a row and a column, as in: erase 1 3",
-        Verb::Check => "check wants a row and a column, as in: check 1 3",
-        Verb::Move => "move wants the number of a move, as in: move 1",
-        Verb::Save => "save wants the name of a file, without blanks",
+        Verb::Place => "place wants a row, a column and a digit, as in: place 1 3 4\n",
+        Verb::Mark => "mark wants a row, a column and a digit, as in: mark 1 3 4\n",
+        Verb::Erase => "erase wants a row and a column, as in: erase 1 3\n",
+        Verb::Check => "check wants a row and a column, as in: check 1 3\n",
+        Verb::Move => "move wants the number of a move, as in: move 1\n",
+        Verb::Save => "save wants the name of a file, without blanks\n",
         Verb::Open => {
-            "open wants a record or a puzzle, and may have its solution: names of files without blanks"
+            "open wants a record or a puzzle, and may have its solution: names of files without blanks\n"
         }
         Verb::Puzzle => {
-            "puzzle wants a line of 81 characters and the 81 digits of its solution, as two words"
+            "puzzle wants a line of 81 characters and the 81 digits of its solution, as two words\n"
         }
-        _ => "that command stands alone",
+        _ => "that command stands alone\n",
     }
 }
 
 // Says what a command wants.
 fn want(verb: Verb) {
-    show(format_args!("{}\n", wants(verb)));
+    show(wants(verb));
 }
 
 fn help() {
@@ -245,7 +245,9 @@ impl Game {
         made(k, slot_at(&self.memory.journal, k), r.undone);
     }
 
-    // Saves the game under a name.
+    // Saves the game under a name. Kept apart, as `open_line` is: laid into `perform`, what it writes into would take
+    // its room on the stack at each command.
+    #[inline(never)]
     fn save<R: Files>(&self, rt: &R, command: Command<'_>) {
         let Words::One(path) = command.words else {
             want(Verb::Save);
@@ -302,6 +304,7 @@ impl Game {
     }
 
     // A mailed line and the line of its solution, as two words.
+    #[inline(never)]
     #[tactic(auto, unfolding(crate::specs::Perform::puzzle_leaves, crate::specs::Perform::taken_up, texts::specs::Commands::said, sudoku::specs::Tests::pick))]
     fn open_line(&mut self, command: Command<'_>)
         ensures left { played self.new ≡ puzzle_leaves (request command.entry) (played self.old) }

@@ -57,18 +57,24 @@ impl Display for Displaced {
     }
 }
 
-// What a move did: its kind in a word, and the digit where it has one.
+// What a move did: its kind in a word, and the slot's digit where it has one. By the slot and not by the move, since a
+// slot that no call leaves may have a digit that its move has not, or none where its move has one.
 #[derive(Clone, Copy)]
-struct Deed(Move);
+struct Deed(Slot);
 
 impl Display for Deed {
     fn fmt<W: fmt::Write>(&self, f: &mut fmt::Formatter<W>) -> fmt::Result {
-        match self.0 {
-            Move::Place { digit, .. } => write!(f, "place {digit}"),
-            Move::Erase { .. } => f.write_str("erase"),
-            Move::WriteMark { digit, .. } => write!(f, "mark {digit}"),
-            Move::StrikeMark { digit, .. } => write!(f, "strike {digit}"),
+        let digit = self.0.digit;
+        f.write_str(match move_of(self.0) {
+            Move::Place { .. } => "place ",
+            Move::Erase { .. } => "erase",
+            Move::WriteMark { .. } => "mark ",
+            Move::StrikeMark { .. } => "strike ",
+        })?;
+        if digit != 0 {
+            write!(f, "{digit}")?;
         }
+        Ok(())
     }
 }
 
@@ -78,7 +84,7 @@ pub fn made(n: usize, slot: Slot, undone: bool) {
         row: slot.row,
         column: slot.column,
     };
-    let deed = Deed(move_of(slot));
+    let deed = Deed(slot);
     let displaced = Displaced(slot);
     let undone = if undone { " (undone)" } else { "" };
     show(format_args!("move {n}: {deed}{at}{displaced}{undone}\n"));
@@ -93,11 +99,11 @@ pub fn verdict(asked: Asked, right: bool) {
         digit,
     } = asked;
     let at = At { row, column };
-    let verdict = if right { "right" } else { "wrong" };
+    let verdict = if right { " is right" } else { " is wrong" };
     let moves = Count {
         n: standing,
-        one: " move",
-        more: " moves",
+        one: " move stood)\n",
+        more: " moves stood)\n",
     };
-    show(format_args!("{digit}{at} is {verdict} ({moves} stood)\n"));
+    show(format_args!("{digit}{at}{verdict} ({moves}"));
 }

@@ -59,8 +59,8 @@ fn counts(board: Board) {
     let standing = board.standing;
     let moves = Count {
         n: board.made,
-        one: " move stands",
-        more: " moves stand",
+        one: " move stands, ",
+        more: " moves stand, ",
     };
     let checks = Count {
         n: board.checks,
@@ -68,7 +68,7 @@ fn counts(board: Board) {
         more: " checks",
     };
     let solved = if board.solved != 0 { "; solved" } else { "" };
-    show(format_args!("{standing} of {moves}, {checks}{solved}\n"));
+    show(format_args!("{standing} of {moves}{checks}{solved}\n"));
 }
 
 // A board whole: drawn, with the keypad and the counts below.

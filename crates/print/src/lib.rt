@@ -70,13 +70,13 @@ impl<'a> Display for Printable<'a> {
 
 // How many there are of a thing, with its noun.
 #[derive(Clone, Copy)]
-pub struct Count {
+pub struct Count<'a> {
     pub n: usize,
-    pub one: &'static str,
-    pub more: &'static str,
+    pub one: &'a str,
+    pub more: &'a str,
 }
 
-impl Display for Count {
+impl<'a> Display for Count<'a> {
     ghost output = { λ c. Some (decimal c.n ++ (if c.n == 1 then c.one.now else c.more.now)) };
 
     fn fmt<W: fmt::Write>(&self, f: &mut fmt::Formatter<W>) -> fmt::Result {
@@ -84,4 +84,10 @@ impl Display for Count {
         let noun = if n == 1 { one } else { more };
         write!(f, "{n}{noun}")
     }
+}
+
+// How many there are of a thing, with its noun as bytes of any kind.
+pub fn counted(n: usize, one: &[u8], more: &[u8]) {
+    show(n);
+    say(if n == 1 { one } else { more });
 }

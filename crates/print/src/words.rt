@@ -187,9 +187,9 @@ impl Display for Found {
         let byte = self.0;
         if is_printable(byte) {
             let character = char::from(byte);
-            return write!(f, "it is {character}");
+            return write!(f, ": it is {character}");
         }
-        write!(f, "it is byte {byte}")
+        write!(f, ": it is byte {byte}")
     }
 }
 
@@ -214,7 +214,7 @@ impl<'a> Display for WhatCame<'a> {
             return write!(f, "; {came}");
         }
         let found = Found(byte_at(self.line, index_of(self.refused.place)));
-        write!(f, ": {found}")
+        write!(f, "{found}")
     }
 }
 

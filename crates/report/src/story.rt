@@ -23,15 +23,15 @@ fn moves_made(board: Board, journal: &[u8; JOURNAL_BYTES]) {
     let n = board.made;
     let moves = Count {
         n,
-        one: " move was made",
-        more: " moves were made",
+        one: " move was made, ",
+        more: " moves were made, ",
     };
     let standing = Count {
         n: board.standing,
-        one: " stands",
-        more: " stand",
+        one: " stands\n",
+        more: " stand\n",
     };
-    show(format_args!("{moves}, {standing}\n"));
+    show(format_args!("{moves}{standing}"));
     for k in 1..=n {
         made(k, slot_at(journal, k), board.standing < k);
     }
@@ -41,10 +41,10 @@ fn moves_made(board: Board, journal: &[u8; JOURNAL_BYTES]) {
 fn checks_stored(n: usize, checks: &[u8; CHECK_MEMORY]) {
     let asked = Count {
         n,
-        one: " check was made",
-        more: " checks were made",
+        one: " check was made\n",
+        more: " checks were made\n",
     };
-    show(format_args!("{asked}\n"));
+    show(asked);
     for i in 1..=n.min(MAX_CHECKS) {
         // the verdict is a byte of lent memory, which may hold any; of a record that reopened it is 0 or 1
         let right = verdict_at(checks, i) == 1;
