@@ -14,6 +14,9 @@ use sudoku::cell_of;
 
 // The digit put that stands after the change, which settles the status; answered is whether the one before it
 // stood there. A move that changes no digit leaves all, and its caller goes on to the marks (docs/DECISIONS.md, 36).
+// It is laid into its callers: as a call of its own, for each slot that a reading performs, a reading takes a quarter
+// longer.
+#[inline(always)]
 #[tactic(auto, unfolding(board::specs::Board::state_of, board::specs::Board::counts_of, board::specs::Board::board_of, board::specs::Board::moved, crate::specs::Code::Ways::digit_gone, crate::specs::Code::Ways::digit_stood))]
 pub fn put<D: Direction>(board: &mut Board, slot: Slot) -> bool
     ensures stood { result ≡ digit_stood D.way board.old.digits (cell_of slot.row slot.column) (digit_change slot) }
