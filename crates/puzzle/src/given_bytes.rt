@@ -7,8 +7,8 @@ ghost use Rattle.puzzle.specs.Code.GivenBytes.{given_from, given_in, givens_in, 
 use crate::{Given, Layout, byte_at, bytes_from, put_at};
 use sudoku::cell_of;
 
-// The given whose three bytes start at an index; bytes past the end read as 0. Where all three are there they are tested
-// once: byte by byte an opening with eighty givens takes a quarter longer.
+// The given whose three bytes start at an index; bytes past the end read as 0. Where all three are there they are
+// tested once: byte by byte an opening with eighty givens takes a quarter longer.
 #[tactic(auto, unfolding(crate::specs::Code::GivenBytes::given_from))]
 pub fn given_from(bytes: &[u8], start: usize) -> Given
     ensures { result ≡ given_from bytes.now start }

@@ -29,8 +29,8 @@ use puzzle::answer::accepted;
 use puzzle::{Given, Refusal, digit_at};
 use sudoku::{CELLS, column_of, row_of};
 
-// How many cells hold a given. Counted in a byte: by `filter` and `count`, in a usize, each cell is a branch, and a board
-// without moves takes a quarter longer to write.
+// How many cells hold a given. Counted in a byte: by `filter` and `count`, in a usize, each cell is a branch, and a
+// board without moves takes a quarter longer to write.
 pub fn count_givens(given: &[u8; 81]) -> usize
     ensures { (result ≡ count_of (is_given given.now) 81 1) × (result ≤ 81) }
 {
